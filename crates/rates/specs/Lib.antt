@@ -1,0 +1,4 @@
+pub mod Rule
+pub mod Pair
+pub mod Standard
+pub mod Published
