@@ -58,5 +58,5 @@ standard-lawful f gain = lawful standard-floor (cut-to f) (raised-to f) (record 
   floor-low = omega arith;
   floor-high = omega arith;
   falls = λ line c v b low high. cut-falls f gain v low c (b .from-floor);
-  rises = λ line r s b ordered ends. raise-rises f line r s (b .to-line) ordered ends;
+  rises = λ line r s h. raise-rises f line r s (h .in-line .to-line) (h .ordered) (h .target-ends);
 })

@@ -1,0 +1,3 @@
+pub mod Cuts
+mod Weights
+mod Bytes

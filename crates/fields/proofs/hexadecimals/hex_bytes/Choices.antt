@@ -1,0 +1,16 @@
+use Prim.Native.Nat.{_≤_}
+use mathlib.Core.Path.{_≡_}
+use mathlib.Core.List.{_++_}
+use lib.ListN.{length}
+use Rattle.std.specs.Of.Vec.{vec-items}
+use Rattle.std.specs.Options.{mapped}
+use Rattle.fields.specs.Hexadecimals.{hex-of}
+use Rattle.fields.proofs.hexadecimals.hex_bytes.Given as given
+
+abbrev pub Inv-loop-left : given.InvT-loop-left
+Inv-loop-left l =
+    (mapped (λ bs. vec-items (l .bytes) ++ bs) (hex-of (l .left)) ≡ hex-of (l .digits))
+    × (length (l .left) ≤ length (l .digits))
+
+abbrev pub μ-loop-left : given.MeasureT-loop-left
+μ-loop-left l = length (l .left)

@@ -1,0 +1,5 @@
+pub mod Decimals
+pub mod Hexadecimals
+pub mod Pairs
+pub mod Parts
+pub mod Separators

@@ -1,0 +1,3 @@
+pub mod Expiries
+pub mod Text
+pub mod Recovery

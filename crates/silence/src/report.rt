@@ -1,0 +1,88 @@
+ghost use mathlib.Core.Path.{_≡_};
+ghost use Prim.Native.Nat.{_<_};
+ghost use Rattle.std.specs.Of.String.{string-bytes};
+ghost use Rattle.std.specs.Vec.{made};
+ghost use Rattle.std.specs.declared.option.Option.the-variants.{Some};
+ghost use Rattle.silence.specs.Text.{glyph, pair, station-text, record-text, cut-text, row-text};
+use crate::expiry::Expiry;
+use record::Record;
+use std::alloc::AllocError;
+use std::alloc::Global;
+use std::fmt;
+
+// A byte as two hexadecimal digits.
+#[derive(Clone, Copy)]
+struct HexByte(u8);
+
+fn hex_char(digit: u8) -> char
+    requires { ⌜ digit < 16 ⌝ }
+    ensures answer { λ r. ⌜ r ≡ glyph digit ⌝ }
+{
+    if digit < 10 {
+        (b'0' + digit) as char
+    } else {
+        (b'a' + (digit - 10)) as char
+    }
+}
+
+impl fmt::Display for HexByte as HexByteDisplay {
+    ghost shown = { λ x. Some (pair (x .0)) };
+
+    fn fmt<W: fmt::Write>(&self, f: &mut fmt::Formatter<W>) -> fmt::Result {
+        let high = hex_char(self.0 / 16);
+        let low = hex_char(self.0 % 16);
+        write!(f, "{high}{low}")
+    }
+}
+
+// A station address, as 02:00:00:00:00:01.
+#[derive(Clone, Copy)]
+struct Station([u8; 6]);
+
+impl fmt::Display for Station as StationDisplay {
+    ghost shown = { λ x. Some (station-text (x .0)) };
+
+    fn fmt<W: fmt::Write>(&self, f: &mut fmt::Formatter<W>) -> fmt::Result {
+        let a = HexByte(self.0[0]);
+        let b = HexByte(self.0[1]);
+        let c = HexByte(self.0[2]);
+        let d = HexByte(self.0[3]);
+        let e = HexByte(self.0[4]);
+        let g = HexByte(self.0[5]);
+        write!(f, "{a}:{b}:{c}:{d}:{e}:{g}")
+    }
+}
+
+// What the record says.
+fn record_text(heap: Global, said: &Record) -> Result<String, AllocError>
+    ensures answer { λ r. ⌜ made r (λ t. string-bytes t ≡ record-text (now (said .entry))) ⌝ }
+{
+    let station = Station(said.station);
+    let flow = said.flow;
+    let value = said.value;
+    format!(
+        heap,
+        "record: switch {station}, flow {flow}, value {value}\n"
+    )
+}
+
+// What it does to the current rate.
+fn cut_text(heap: Global, before: u32, after: u32) -> Result<String, AllocError>
+    ensures answer { λ r. ⌜ made r (λ t. string-bytes t ≡ cut-text before after) ⌝ }
+{
+    format!(
+        heap,
+        "current rate: {before} kbit/s before the notice, {after} kbit/s after it\n"
+    )
+}
+
+fn row_text(heap: Global, expiry: Expiry) -> Result<String, AllocError>
+    ensures answer { λ r. ⌜ made r (λ t. string-bytes t ≡ row-text expiry) ⌝ }
+{
+    let number = expiry.number;
+    let time = expiry.time;
+    let stage = expiry.stage;
+    let current = expiry.rates.current;
+    let target = expiry.rates.target;
+    format!(heap, "{number} {time} {stage} {current} {target}\n")
+}
