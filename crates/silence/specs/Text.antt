@@ -3,11 +3,13 @@ use mathlib.Core.Bool.{cond}
 use mathlib.Core.List.{List, [], _∷_, _++_}
 use Prim.Native.Nat.{ℕ, _+_, _-_, _/_, _%_}
 use lib.Chars.{codes}
-use lib.Dec.{ltb}
+use lib.Dec.{ltb, eqb}
 use lib.ListN.{getD}
 use Rattle.std.specs.Written.{decimal}
+use Rattle.std.specs.Of.Vec.{vec-items}
 use Rattle.record.specs.declared.Record.{Record}
 use Rattle.silence.specs.declared.expiry.Expiry.{Expiry}
+use Rattle.silence.specs.declared.expiry.Recovery.{Recovery}
 
 -- A hexadecimal digit, in lower case.
 abbrev pub glyph : ℕ → ℕ
@@ -34,3 +36,27 @@ cut-text before after = codes "current rate: " ++ (decimal before ++ (codes " kb
 abbrev pub row-text : Expiry → List ℕ
 row-text e =
     decimal (e .number) ++ (codes " " ++ (decimal (e .time) ++ (codes " " ++ (decimal (e .stage) ++ (codes " " ++ (decimal (e .rates .current) ++ (codes " " ++ (decimal (e .rates .target) ++ codes "\n"))))))))
+
+abbrev pub rows-text : List Expiry → List ℕ
+rows-text [] = []
+rows-text (e ∷ es) = row-text e ++ rows-text es
+
+-- How it ended: at the line rate, or with the most expiries that are followed.
+abbrev pub ending : ℕ → ℕ → List ℕ
+ending line current = cond (eqb current line) (codes "back") (codes "stopped at the bound, not back")
+
+-- When it ended: after how many expiries, and how long after the notice.
+abbrev pub when-text : Expiry → List ℕ
+when-text e = codes " at the line rate after " ++ (decimal (e .number) ++ (codes " expiries, " ++ (decimal (e .time) ++ codes " us after the notice\n")))
+
+-- The closing sentence.
+abbrev pub closing-text : ℕ → Expiry → List ℕ
+closing-text line e = ending line (e .rates .current) ++ when-text e
+
+-- What stands above the rows.
+abbrev pub columns : List ℕ
+columns = codes "expiry time_us stage current_kbit/s target_kbit/s\n"
+
+-- A flow's way back, from the cut to the closing sentence.
+abbrev pub way-text : ℕ → Recovery → List ℕ
+way-text line w = cut-text line (w .start .rates .current) ++ (columns ++ (rows-text (vec-items (w .rows)) ++ closing-text line (w .end)))

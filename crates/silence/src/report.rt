@@ -3,8 +3,9 @@ ghost use Prim.Native.Nat.{_<_};
 ghost use Rattle.std.specs.Of.String.{string-bytes};
 ghost use Rattle.std.specs.Vec.{made};
 ghost use Rattle.std.specs.declared.option.Option.the-variants.{Some};
-ghost use Rattle.silence.specs.Text.{glyph, pair, station-text, record-text, cut-text, row-text};
+ghost use Rattle.silence.specs.Text.{glyph, pair, station-text, record-text, cut-text, row-text, rows-text, ending, closing-text, way-text};
 use crate::expiry::Expiry;
+use crate::expiry::Recovery;
 use record::Record;
 use std::alloc::AllocError;
 use std::alloc::Global;
@@ -85,4 +86,50 @@ fn row_text(heap: Global, expiry: Expiry) -> Result<String, AllocError>
     let current = expiry.rates.current;
     let target = expiry.rates.target;
     format!(heap, "{number} {time} {stage} {current} {target}\n")
+}
+
+fn rows_text(heap: Global, rows: &[Expiry]) -> Result<String, AllocError>
+    ensures answer { λ r. ⌜ made r (λ t. string-bytes t ≡ rows-text (now (rows .entry))) ⌝ }
+{
+    let mut text = String::new(heap);
+    for row in rows {
+        let line = row_text(heap, *row)?;
+        text.push_str(line.as_str())?;
+    }
+    Ok(text)
+}
+
+fn ending(line_rate: u32, current: u32) -> &'static str
+    ensures answer { λ r. ⌜ now r ≡ ending «line_rate» current ⌝ }
+{
+    if current == line_rate {
+        "back"
+    } else {
+        "stopped at the bound, not back"
+    }
+}
+
+fn closing_text(heap: Global, line_rate: u32, end: Expiry) -> Result<String, AllocError>
+    ensures answer { λ r. ⌜ made r (λ t. string-bytes t ≡ closing-text «line_rate» end) ⌝ }
+{
+    let ending = ending(line_rate, end.rates.current);
+    let number = end.number;
+    let time = end.time;
+    format!(
+        heap,
+        "{ending} at the line rate after {number} expiries, {time} us after the notice\n"
+    )
+}
+
+// The way of a flow that a notice cut.
+fn way_text(heap: Global, line_rate: u32, way: &Recovery) -> Result<String, AllocError>
+    ensures answer { λ r. ⌜ made r (λ t. string-bytes t ≡ way-text «line_rate» (now (way .entry))) ⌝ }
+{
+    let cut = cut_text(heap, line_rate, way.start.rates.current)?;
+    let rows = rows_text(heap, way.rows.as_slice())?;
+    let closing = closing_text(heap, line_rate, way.end)?;
+    format!(
+        heap,
+        "{cut}expiry time_us stage current_kbit/s target_kbit/s\n{rows}{closing}"
+    )
 }
