@@ -1,11 +1,9 @@
 use mathlib.Core.Path.{_≡_, refl, sym, ap, _∙_}
 use mathlib.Core.List.{List, [], _∷_, _++_}
-use mathlib.Core.Bool.{Bool, true, false, cond}
 use mathlib.Core.Logic.{inl, inr}
-use Prim.Native.Nat.{ℕ, zero, suc, _+_, _≤_, _<_}
+use Prim.Native.Nat.{ℕ, zero, suc, _≤_, _<_}
 use native.Mathlib.Numerals.{add-one}
 use native.Mathlib.Omega.{arith}
-use lib.Dec.{eqb}
 use lib.ListN.{length, getD, take, drop}
 use Rattle.std.proofs.shelf.Lists.{length-take, getD-take}
 use Rattle.std.proofs.shelf.Tests.{ne-eqb, eq-eqb}
@@ -48,7 +46,7 @@ cut-text s (x ∷ xs) (suc n) h e = ap (λ ys. x ∷ ys) (cut-text s xs n (omega
 pub found-at : (s : ℕ) (xs : List ℕ) (n : ℕ) → n < length xs → Clear s xs n → getD xs n 0 ≡ s → Stands s xs n
 found-at s xs n h c e = record {
   within = h;
-  free = λ k l q. c k (omega (arith, length-take n xs)) (sym (getD-take n xs k 0 (omega (arith, length-take n xs))) ∙ q);
+  free = λ k l q. let m : k < n = omega (arith, length-take n xs) in c k m (sym (getD-take n xs k 0 m) ∙ q);
   joins = rw add-one (cut-text s xs n h e);
   cuts = rw add-one (cut-parts s xs n h c e);
 }

@@ -23,11 +23,11 @@ number-of [] = 0
 number-of (d ∷ ds) = d * 10 ^ length ds + number-of ds
 
 -- A number is kept where it is at most 4,294,967,295.
-abbrev pub word : Option ℕ → Option ℕ
-word None = None
-word (Some n) = cond (leb n 4294967295) (Some n) None
+abbrev pub fitting : Option ℕ → Option ℕ
+fitting None = None
+fitting (Some n) = cond (leb n 4294967295) (Some n) None
 
 -- A decimal number is 1 to 10 digits that write at most 4,294,967,295.
 abbrev pub decimal-of : List ℕ → Option ℕ
 decimal-of cs =
-    cond (leb 1 (length cs) && leb (length cs) 10) (word (mapped number-of (digits-of cs))) None
+    cond (leb 1 (length cs) && leb (length cs) 10) (fitting (mapped number-of (digits-of cs))) None

@@ -1,10 +1,11 @@
 use mathlib.Core.List.{List, [], _∷_}
-use mathlib.Core.Bool.{cond, _&&_}
+use mathlib.Core.Bool.{true, cond, _&&_}
 use mathlib.Core.Path.{_≡_}
 use Prim.Native.Nat.{ℕ, _+_, _-_, _*_, _≤_}
 use lib.Dec.{leb}
 use lib.ListN.{length}
 use Rattle.std.specs.Of.Vec.{vec-items}
+use Rattle.std.specs.Options.{isSome}
 use Rattle.std.specs.OverHeap.{Vec}
 use Rattle.std.specs.declared.option.Option.{Option}
 use Rattle.std.specs.declared.option.Option.the-variants.{Some, None}
@@ -31,9 +32,9 @@ hex-of [] = Some []
 hex-of (c ∷ []) = None
 hex-of (high ∷ (low ∷ cs)) = paired _∷_ (byte-of high low) (hex-of cs)
 
--- What reading digits may answer: the bytes that they write; Digits where they write none; Memory, at any
--- time, where there is a byte to hold.
+-- What reading digits may answer: the bytes that they write; Digits just where they write none; Memory only where
+-- they write at least one byte.
 abbrev pub Written : List ℕ → Result (Vec ℕ) HexFault → Type 0
 Written cs (Ok v) = hex-of cs ≡ Some (vec-items v)
 Written cs (Err Digits) = hex-of cs ≡ None
-Written cs (Err Memory) = 2 ≤ length cs
+Written cs (Err Memory) = (isSome (hex-of cs) ≡ true) × (2 ≤ length cs)

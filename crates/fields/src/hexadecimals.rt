@@ -1,11 +1,15 @@
 // Bytes, as a field writes them: two hexadecimal digits for each.
-ghost use Rattle.fields.specs.Hexadecimals.{hex-digit-of, byte-of, Written};
+ghost use Rattle.fields.specs.Hexadecimals.{hex-digit-of, byte-of, hex-of, Written};
 ghost use Rattle.fields.specs.declared.hexadecimals.HexFault.the-variants.{Memory};
+ghost use Rattle.std.specs.Options.{isSome};
+ghost use mathlib.Core.Bool.{true};
 ghost use mathlib.Core.Path.{_≡_};
 use std::alloc::Global;
 use std::alloc::Refused;
 
 const BASE: u8 = 16;
+
+const DIGITS_OF_A_BYTE: usize = 2;
 
 // Why digits gave no bytes.
 #[derive(Clone, Copy, PartialEq, Eq, Debug, Drop)]
@@ -42,21 +46,42 @@ fn hex_byte(high: u8, low: u8) -> Option<u8>
     Some(hex_digit(high)? * BASE + hex_digit(low)?)
 }
 
-// The bytes that digits write, two to a byte and the higher digit first. No digits give no bytes.
-pub fn hex_bytes(heap: Global, digits: &[u8]) -> Result<Vec<u8>, HexFault>
+// Whether digits write bytes: they are even in number, and each is a hexadecimal digit.
+fn are_hex(digits: &[u8]) -> bool
+    ensures answer { λ r. ⌜ r ≡ isSome (hex-of (now (digits .entry))) ⌝ }
+{
+    for c in digits {
+        if hex_digit(*c).is_none() {
+            return false;
+        }
+    }
+    digits.len() % DIGITS_OF_A_BYTE == 0
+}
+
+// The bytes of digits that were judged.
+fn read_pairs(heap: Global, digits: &[u8]) -> Result<Vec<u8>, HexFault>
+    requires { ⌜ isSome (hex-of (now digits)) ≡ true ⌝ }
     ensures answer { λ r. ⌜ Written (now (digits .entry)) r ⌝ }
 {
     let mut bytes = Vec::new(heap);
     let mut left = digits;
     while let [high, low, rest @ ..] = left {
         let Some(byte) = hex_byte(*high, *low) else {
-            return Err(HexFault::Digits);
+            unreachable();
         };
         bytes.push(byte)?;
         left = rest;
     }
-    if !left.is_empty() {
+    Ok(bytes)
+}
+
+// The bytes that digits write, two to a byte and the higher digit first. No digits give no bytes. The digits
+// are judged before memory is asked for, so that no fault of theirs is taken for want of memory.
+pub fn hex_bytes(heap: Global, digits: &[u8]) -> Result<Vec<u8>, HexFault>
+    ensures answer { λ r. ⌜ Written (now (digits .entry)) r ⌝ }
+{
+    if !are_hex(digits) {
         return Err(HexFault::Digits);
     }
-    Ok(bytes)
+    read_pairs(heap, digits)
 }

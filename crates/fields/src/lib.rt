@@ -4,6 +4,7 @@
 mod cutting;
 mod decimals;
 mod hexadecimals;
+mod splitting;
 
 pub use cutting::Piece;
 pub use cutting::cut;
@@ -11,3 +12,4 @@ pub use decimals::decimal;
 pub use hexadecimals::HexFault;
 pub use hexadecimals::hex_bytes;
 pub use hexadecimals::hex_digit;
+pub use splitting::split;

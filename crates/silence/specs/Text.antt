@@ -58,5 +58,11 @@ abbrev pub columns : List ℕ
 columns = codes "expiry time_us stage current_kbit/s target_kbit/s\n"
 
 -- A flow's way back, from the cut to the closing sentence.
+abbrev pub way-said : ℕ → Expiry → List Expiry → Expiry → List ℕ
+way-said line start rows end = cut-text line (start .rates .current) ++ (columns ++ (rows-text rows ++ closing-text line end))
+
 abbrev pub way-text : ℕ → Recovery → List ℕ
-way-text line w = cut-text line (w .start .rates .current) ++ (columns ++ (rows-text (vec-items (w .rows)) ++ closing-text line (w .end)))
+way-text line w = way-said line (w .start) (vec-items (w .rows)) (w .end)
+
+abbrev pub ignored-text : List ℕ
+ignored-text = codes "value 0 is ignored: the flow stays at its rate\n"

@@ -2,4 +2,6 @@
 //
 // `expiry`: the timer's expiries, one after another. `report`: the text that tells them.
 pub mod expiry;
+pub mod question;
+pub mod refusal;
 pub mod report;

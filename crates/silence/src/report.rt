@@ -1,15 +1,27 @@
+ghost use mathlib.Core.List.{_++_};
 ghost use mathlib.Core.Path.{_≡_};
 ghost use Prim.Native.Nat.{_<_};
 ghost use Rattle.std.specs.Of.String.{string-bytes};
 ghost use Rattle.std.specs.Vec.{made};
 ghost use Rattle.std.specs.declared.option.Option.the-variants.{Some};
-ghost use Rattle.silence.specs.Text.{glyph, pair, station-text, record-text, cut-text, row-text, rows-text, ending, closing-text, way-text};
+ghost use Rattle.silence.specs.Text.{glyph, pair, station-text, record-text, cut-text, row-text, rows-text, ending, closing-text, way-text, ignored-text};
+ghost use Rattle.silence.specs.Answered.{report-text, refusal-text, answered};
 use crate::expiry::Expiry;
 use crate::expiry::Recovery;
+use crate::expiry::recover;
+use crate::question::ask;
+use crate::refusal::Refusal;
+use rates::rate_rule::RateRule;
+use rates::standard::Standard;
+use rates::standard::StandardRule;
 use record::Record;
+use settings::accepted::Settings;
 use std::alloc::AllocError;
 use std::alloc::Global;
 use std::fmt;
+
+// A notice of this value does nothing.
+const IGNORED: u8 = 0;
 
 // A byte as two hexadecimal digits.
 #[derive(Clone, Copy)]
@@ -132,4 +144,61 @@ fn way_text(heap: Global, line_rate: u32, way: &Recovery) -> Result<String, Allo
         heap,
         "{cut}expiry time_us stage current_kbit/s target_kbit/s\n{rows}{closing}"
     )
+}
+
+fn ignored_text(heap: Global, head: &str) -> Result<String, AllocError>
+    ensures answer { λ r. ⌜ made r (λ t. string-bytes t ≡ now (head .entry) ++ ignored-text) ⌝ }
+{
+    format!(
+        heap,
+        "{head}value 0 is ignored: the flow stays at its rate\n"
+    )
+}
+
+fn joined_text(heap: Global, head: &str, rest: &str) -> Result<String, AllocError>
+    ensures answer { λ r. ⌜ made r (λ t. string-bytes t ≡ now (head .entry) ++ now (rest .entry)) ⌝ }
+{
+    format!(heap, "{head}{rest}")
+}
+
+// What the record does to a flow at the line rate that then stays silent.
+pub fn report<R: RateRule>(
+    heap: Global,
+    rule: &R,
+    settings: &Settings,
+    said: &Record,
+) -> Result<String, AllocError>
+    ensures answer { λ r. ⌜ made r (λ t. string-bytes t ≡ report-text (R·RateRule .meaning (now (rule .entry))) (now (settings .entry) .figures) (now (said .entry))) ⌝ }
+{
+    let head = record_text(heap, said)?;
+    if said.value == IGNORED {
+        return ignored_text(heap, head.as_str());
+    }
+    let way = recover(heap, rule, settings, said.value)?;
+    let rest = way_text(heap, settings.line_rate(), &way)?;
+    joined_text(heap, head.as_str(), rest.as_str())
+}
+
+fn refusal_text(heap: Global, refusal: Refusal) -> Result<String, AllocError>
+    ensures answer { λ r. ⌜ made r (λ t. string-bytes t ≡ refusal-text refusal) ⌝ }
+{
+    let number = refusal.number();
+    let subject = refusal.subject();
+    let complaint = refusal.complaint();
+    format!(heap, "refused {number}: {subject} {complaint}\n")
+}
+
+// The whole answer to a question of two lines: the report by the standard rule, or the refusal.
+pub fn answer(heap: Global, input: &[u8]) -> Result<String, AllocError>
+    ensures answer { λ r. ⌜ made r (λ t. string-bytes t ≡ answered (now (input .entry))) ⌝ }
+{
+    match ask(heap, input)? {
+        Ok(question) => report(
+            heap,
+            &Standard::new(question.settings),
+            &question.settings,
+            &question.said,
+        ),
+        Err(refusal) => refusal_text(heap, refusal),
+    }
 }

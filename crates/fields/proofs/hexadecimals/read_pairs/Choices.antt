@@ -5,7 +5,7 @@ use lib.ListN.{length}
 use Rattle.std.specs.Of.Vec.{vec-items}
 use Rattle.std.specs.Options.{mapped}
 use Rattle.fields.specs.Hexadecimals.{hex-of}
-use Rattle.fields.proofs.hexadecimals.hex_bytes.Given as given
+use Rattle.fields.proofs.hexadecimals.read_pairs.Given as given
 
 abbrev pub Inv-loop-left : given.InvT-loop-left
 Inv-loop-left l =

@@ -4,7 +4,7 @@ use lib.ListN.{length}
 use mathlib.Core.Path.{sym}
 use Rattle.std.specs.Of.Vec.{vec-items}
 use Rattle.fields.proofs.Bytes.{pair-read, shorter}
-use Rattle.fields.proofs.hexadecimals.hex_bytes.Needs as need
+use Rattle.fields.proofs.hexadecimals.read_pairs.Needs as need
 
 pub loop-left-again : need.loop-left-again
 loop-left-again c =
