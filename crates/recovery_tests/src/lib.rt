@@ -1,0 +1,3 @@
+// What no contract says: worked examples, compared with what they should print.
+#[cfg(test)]
+mod examples;
