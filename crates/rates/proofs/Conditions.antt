@@ -30,7 +30,7 @@ pub record Raisable (floor line : ℕ) (r : Rates) : Type 0 where
   pub ordered : r .current ≤ r .target
   pub target-ends : r .target ≤ largest-target
 
-raisable-parts : (floor line : ℕ) (r : Rates) → raisable floor line r ≡ true → Raisable floor line r
+pub raisable-parts : (floor line : ℕ) (r : Rates) → raisable floor line r ≡ true → Raisable floor line r
 raisable-parts floor line r e =
     let p = and-parts (in-bounds floor line (r .current)) _ e in
     let q = and-parts (leb (r .current) (r .target)) (leb (r .target) largest-target) (p .1) in

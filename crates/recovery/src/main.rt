@@ -1,6 +1,6 @@
 // When is a flow back at the line rate after this feedback record, if its sender stays silent?
 // A line with the settings and a line with the record on standard input; the answer on standard output.
-use silence::report::answer;
+use report::telling::answer;
 use std::io;
 use std::io::Read;
 

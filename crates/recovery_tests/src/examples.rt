@@ -1,7 +1,7 @@
 use record::Record;
 use record::WriteFault;
 use record::write;
-use silence::report::answer;
+use report::telling::answer;
 use std::alloc::Global;
 use std::test::*;
 

@@ -1,6 +1,6 @@
 -- A silent flow climbs to the line rate.
 use mathlib.Core.Path.{_≡_, refl, sym, ap, subst, _∙_}
-use mathlib.Core.Bool.{cond}
+use mathlib.Core.Bool.{true, cond}
 use mathlib.Core.List.{List, [], _∷_, _++_}
 use mathlib.Core.Logic.{_⊎_, inl, inr, ⊎-elim}
 use Prim.Native.Nat.{ℕ, zero, suc, _+_, _-_, _/_, _≤_, _<_}
@@ -12,8 +12,8 @@ use Rattle.settings.specs.Ranges.{In}
 use Rattle.settings.specs.declared.figures.Figures.{Figures}
 use Rattle.settings.specs.declared.fault.SettingsFault.the-variants.{LineRate, Period}
 use Rattle.rates.specs.declared.rates.Stages.{Stages}
-use Rattle.rates.specs.Rule.{Rule, Lawful}
-use Rattle.rates.proofs.Conditions.{Raisable, Bounded, raised-again, raisable-from, cut-again}
+use Rattle.rates.specs.Rule.{Rule, Lawful, raisable}
+use Rattle.rates.proofs.Conditions.{Raisable, Bounded, raisable-parts, raised-again, raisable-from, cut-again}
 use Rattle.silence.specs.declared.expiry.Expiry.{Expiry}
 use Rattle.silence.specs.Expiries.{bound, pause, struck, next, expiries, recovery, Climbs, last, Ends, Climbs-back}
 
@@ -60,17 +60,17 @@ module _ (rule : Rule) (f : Figures) where
         (omega arith, under, up .not-lower, climbs n (next rule f e) (raised-again rule laws (f .«line_rate») (e .rates) stages h)))
         (cases-eq (e .rates .current) (f .«line_rate»))
 
-    struck-raisable : (value : ℕ) → Raisable (rule .floor) (f .«line_rate») (struck rule f value .rates)
+    pub struck-raisable : (value : ℕ) → Raisable (rule .floor) (f .«line_rate») (struck rule f value .rates)
     struck-raisable value =
-        let at-line : Bounded (rule .floor) (f .«line_rate») (f .«line_rate») = record { line-low = line .0; line-high = line .1; from-floor = omega (arith, laws .floor-high); to-line = omega arith } in
+        let at-line : Bounded (rule .floor) (f .«line_rate») (f .«line_rate») =
+        record { line-low = line .0; line-high = line .1; from-floor = omega (arith, laws .floor-high); to-line = omega arith } in
         let cut = cut-again rule laws (f .«line_rate») (f .«line_rate») value at-line in
         record { in-line = cut .in-line; ordered = cut .no-higher; target-ends = omega (arith, line .1) }
 
-    pub climbs-back : (value : ℕ) (start : Expiry) (rows : List Expiry) → start ≡ struck rule f value → rows ≡ recovery rule f value → Climbs-back (f .«line_rate») start rows
-    climbs-back value start rows first all =
-        let from : Climbs-back (f .«line_rate») (struck rule f value) (recovery rule f value) =
-        record { climbs = climbs bound (struck rule f value) (struck-raisable value); ends = ends bound (struck rule f value) } in
-        subst (λ s. Climbs-back (f .«line_rate») s rows) (sym first) (subst (Climbs-back (f .«line_rate») (struck rule f value)) (sym all) from)
+    pub climbs-back : (start : Expiry) (rows : List Expiry) → raisable (rule .floor) (f .«line_rate») (start .rates) ≡ true → rows ≡ expiries rule f bound start → Climbs-back (f .«line_rate») start rows
+    climbs-back start rows ready all =
+        subst (Climbs-back (f .«line_rate») start) (sym all)
+        (record { climbs = climbs bound start (raisable-parts (rule .floor) (f .«line_rate») (start .rates) ready); ends = ends bound start })
 
 -- one more is the last
 pub last-push : (e : Expiry) (xs : List Expiry) (x : Expiry) → last e (xs ++ (x ∷ [])) ≡ x

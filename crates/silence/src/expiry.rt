@@ -3,7 +3,9 @@ ghost use Prim.Native.Nat.{_+_, _≤_, _<_};
 ghost use Rattle.std.specs.Of.Vec.{vec-items};
 ghost use Rattle.std.specs.Vec.{made};
 ghost use Rattle.silence.specs.Expiries.{pause, next, struck, Climbs-back};
-ghost use Rattle.silence.specs.Recovery.{Follows};
+ghost use Rattle.rates.specs.Rule.{raisable};
+ghost use Rattle.silence.specs.Recovery.{Follows, Recovered};
+ghost use mathlib.Core.Bool.{true};
 use rates::rate_rule::RateRule;
 use rates::rates::Rates;
 use rates::rates::Stages;
@@ -59,8 +61,9 @@ fn next<R: RateRule>(rule: &R, settings: &Settings, last: Expiry) -> Expiry
 }
 
 // A flow at the line rate, just after a notice of `value`.
-pub fn strike<R: RateRule>(rule: &R, settings: &Settings, value: u8) -> Expiry
+fn strike<R: RateRule>(rule: &R, settings: &Settings, value: u8) -> Expiry
     ensures answer { λ r. ⌜ r ≡ struck (R·RateRule .meaning (now (rule .entry))) (now (settings .entry) .figures) value ⌝ }
+    ensures ready { λ r. ⌜ raisable (R·RateRule .meaning (now (rule .entry)) .floor) (now (settings .entry) .figures .«line_rate») (r .rates) ≡ true ⌝ }
 {
     let line_rate = settings.line_rate();
     let current = rule.cut(line_rate, line_rate, value);
@@ -83,17 +86,19 @@ pub struct Recovery {
     pub end: Expiry,
 }
 
-// What follows a notice of `value` to a flow at the line rate that then stays silent.
-pub fn recover<R: RateRule>(
+// The expiries after `start`.
+fn follow<R: RateRule>(
     heap: Global,
     rule: &R,
     settings: &Settings,
-    value: u8,
+    start: Expiry,
 ) -> Result<Recovery, AllocError>
-    ensures answer { λ r. ⌜ made r (Follows (R·RateRule .meaning (now (rule .entry))) (now (settings .entry) .figures) value) ⌝ }
+    requires number { ⌜ start .number ≡ 0 ⌝ }
+    requires time { ⌜ start .time ≡ 0 ⌝ }
+    requires ready { ⌜ raisable (R·RateRule .meaning (now rule) .floor) (now settings .figures .«line_rate») (start .rates) ≡ true ⌝ }
+    ensures answer { λ r. ⌜ made r (Follows (R·RateRule .meaning (now (rule .entry))) (now (settings .entry) .figures) start) ⌝ }
     ensures law { λ r. ⌜ made r (λ v. Climbs-back (now (settings .entry) .figures .«line_rate») (v .start) (vec-items (v .rows))) ⌝ }
 {
-    let start = strike(rule, settings, value);
     let mut rows = Vec::new(heap);
     let mut end = start;
     for _ in 0..MOST_EXPIRIES {
@@ -104,4 +109,18 @@ pub fn recover<R: RateRule>(
         rows.push(end)?;
     }
     Ok(Recovery { start, rows, end })
+}
+
+// What follows a notice of `value` to a flow at the line rate that then stays silent.
+pub fn recover<R: RateRule>(
+    heap: Global,
+    rule: &R,
+    settings: &Settings,
+    value: u8,
+) -> Result<Recovery, AllocError>
+    ensures answer { λ r. ⌜ made r (Recovered (R·RateRule .meaning (now (rule .entry))) (now (settings .entry) .figures) value) ⌝ }
+    ensures law { λ r. ⌜ made r (λ v. Climbs-back (now (settings .entry) .figures .«line_rate») (v .start) (vec-items (v .rows))) ⌝ }
+{
+    let way = follow(heap, rule, settings, strike(rule, settings, value))?;
+    Ok(way)
 }

@@ -1,7 +1,4 @@
-// What a notice does to a flow that then stays silent, from the cut to its return to the line rate.
+// A flow that stays silent after a notice, from the cut to its return to the line rate.
 //
-// `expiry`: the timer's expiries, one after another. `report`: the text that tells them.
+// `expiry`: the timer's expiries, one after another.
 pub mod expiry;
-pub mod question;
-pub mod refusal;
-pub mod report;
