@@ -9,12 +9,13 @@ use Rattle.settings.specs.declared.fault.SettingsFault.{SettingsFault}
 use Rattle.settings.specs.declared.fault.SettingsFault.the-variants.{LineRate, Gain, StepA, StepB, Period, ByteLimit, SetPoint, Weight}
 use Rattle.settings.specs.Fault.{refusal}
 use Rattle.question.specs.declared.refusal.Refusal.{Refusal}
-use Rattle.question.specs.declared.refusal.Refusal.the-variants.{Fields, Number, Settings, Digits, Record}
+use Rattle.question.specs.declared.refusal.Refusal.the-variants.{Fields, Number, Letter, Settings, Digits, Record}
 
--- The number: 41 to 43 are of the text, and the others are the settings' and the record's own.
+-- The number: 40 to 43 are of the text, and the others are the settings' and the record's own.
 abbrev pub refusal-number : Refusal → ℕ
 refusal-number Fields = 41
 refusal-number (Number s) = 42
+refusal-number Letter = 40
 refusal-number (Settings s) = refusal s
 refusal-number Digits = 43
 refusal-number (Record f) = read-number f
@@ -49,14 +50,16 @@ record-complaint Value = codes "has a value above 63 (byte 13)"
 abbrev pub subject : Refusal → List ℕ
 subject Fields = codes "the first line"
 subject (Number s) = setting-name s
+subject Letter = codes "the ninth field"
 subject (Settings s) = setting-name s
 subject Digits = codes "the second line"
 subject (Record f) = codes "the record"
 
 -- What is wrong with it.
 abbrev pub complaint : Refusal → List ℕ
-complaint Fields = codes "has not eight fields with one space between them"
+complaint Fields = codes "has not eight or nine fields with one space between them"
 complaint (Number s) = codes "is not 1 to 10 digits that make at most 4294967295"
+complaint Letter = codes "is not the letter of a rate rule, q or g"
 complaint (Settings s) = range-complaint s
 complaint Digits = codes "is not hexadecimal digits, two to a byte"
 complaint (Record f) = record-complaint f

@@ -1,11 +1,11 @@
-ghost use lib.ListN.{getD};
+ghost use lib.ListN.{length, getD};
 ghost use mathlib.Core.List.{[], map};
 ghost use mathlib.Core.Path.{_≡_};
 ghost use denote.Ref.{now as held};
 ghost use Rattle.fields.specs.Parts.{parts-after};
 ghost use Rattle.settings.specs.Judged.{judged};
-ghost use Rattle.question.specs.Questions.{number-said, figures-said, settings-judged, settings-of, settings-said, told-settings, record-of, record-said};
-ghost use Rattle.question.specs.Asked.{told-question, asked};
+ghost use Rattle.question.specs.Questions.{number-said, figures-said, kind-named, kind-said, opening-judged, opening-from, opening-of, record-of, record-said};
+ghost use Rattle.question.specs.Asked.{told-opening, opening-said, told-question, asked};
 ghost use Rattle.std.specs.Vec.{made};
 use crate::refusal::Refusal;
 use fields::HexFault;
@@ -13,6 +13,7 @@ use fields::cut;
 use fields::decimal;
 use fields::hex_bytes;
 use fields::split;
+use rates::chosen::RuleKind;
 use record::Record;
 use record::read;
 use settings::accepted::Settings;
@@ -21,8 +22,21 @@ use settings::figures::Figures;
 use std::alloc::AllocError;
 use std::alloc::Global;
 
-// The first line has so many fields.
+// The first line has so many numbers, and perhaps a letter after them.
 const SETTINGS: usize = 8;
+
+// A rule and its settings.
+#[derive(Clone, Copy)]
+pub struct Opening {
+    pub rule: RuleKind,
+    pub settings: Settings,
+}
+
+fn field_count(fields: &[&[u8]]) -> usize
+    ensures answer { λ r. ⌜ r ≡ length (map held (now (fields .entry))) ⌝ }
+{
+    fields.len()
+}
 
 // The field in a place, and an empty one past the end.
 fn field_at<'a>(fields: &[&'a [u8]], place: usize) -> &'a [u8]
@@ -68,32 +82,65 @@ fn figures(fields: &[&[u8]]) -> Result<Figures, Refusal>
     })
 }
 
-fn judge_figures(figures: Figures) -> Result<Settings, Refusal>
-    ensures answer { λ r. ⌜ told-settings r ≡ settings-judged (judged figures) ⌝ }
+// The rule that the ninth field names; the standard rule where there is none.
+fn rule_kind(fields: &[&[u8]]) -> Result<RuleKind, Refusal>
+    ensures answer { λ r. ⌜ r ≡ kind-said (map held (now (fields .entry))) ⌝ }
+{
+    if field_count(fields) == SETTINGS {
+        return Ok(RuleKind::Standard);
+    }
+    named_kind(field_at(fields, SETTINGS))
+}
+
+fn named_kind(field: &[u8]) -> Result<RuleKind, Refusal>
+    ensures answer { λ r. ⌜ r ≡ kind-named (now (field .entry)) ⌝ }
+{
+    match field {
+        [letter] => match RuleKind::from_letter(*letter as char) {
+            Some(kind) => Ok(kind),
+            None => Err(Refusal::Letter),
+        },
+        _ => Err(Refusal::Letter),
+    }
+}
+
+fn judge_figures(rule: RuleKind, figures: Figures) -> Result<Opening, Refusal>
+    ensures answer { λ r. ⌜ told-opening r ≡ opening-judged rule (judged figures) ⌝ }
 {
     match Settings::accept(figures) {
-        Ok(settings) => Ok(settings),
+        Ok(settings) => Ok(Opening { rule, settings }),
         Err(fault) => Err(Refusal::Settings(fault)),
     }
 }
 
-fn judge_fields(fields: &[&[u8]]) -> Result<Settings, Refusal>
-    ensures answer { λ r. ⌜ told-settings r ≡ settings-of (map held (now (fields .entry))) ⌝ }
+fn judge_fields(fields: &[&[u8]]) -> Result<Opening, Refusal>
+    ensures answer { λ r. ⌜ told-opening r ≡ opening-from (map held (now (fields .entry))) ⌝ }
 {
-    if fields.len() != SETTINGS {
-        return Err(Refusal::Fields);
-    }
-    match figures(fields) {
-        Ok(figures) => judge_figures(figures),
+    let figures = match figures(fields) {
+        Ok(figures) => figures,
+        Err(refusal) => return Err(refusal),
+    };
+    match rule_kind(fields) {
+        Ok(rule) => judge_figures(rule, figures),
         Err(refusal) => Err(refusal),
     }
 }
 
-fn read_settings(heap: Global, line: &[u8]) -> Result<Result<Settings, Refusal>, AllocError>
-    ensures answer { λ r. ⌜ made r (λ s. told-settings s ≡ settings-said (now (line .entry))) ⌝ }
+fn count_fields(fields: &[&[u8]]) -> Result<Opening, Refusal>
+    ensures answer { λ r. ⌜ told-opening r ≡ opening-of (map held (now (fields .entry))) ⌝ }
+{
+    let count = field_count(fields);
+    if count < SETTINGS || count > SETTINGS + 1 {
+        return Err(Refusal::Fields);
+    }
+    judge_fields(fields)
+}
+
+fn read_opening(heap: Global, line: &[u8]) -> Result<Result<Opening, Refusal>, AllocError>
+    ensures answer { λ r. ⌜ made r (λ s. told-opening s ≡ opening-said (now (line .entry))) ⌝ }
 {
     let fields = split(heap, line, b' ')?;
-    Ok(judge_fields(fields.as_slice()))
+    Ok(count_fields(fields.as_slice()))
 }
 
 fn judge_record(bytes: &[u8]) -> Result<Record, Refusal>
@@ -117,10 +164,10 @@ fn read_record(heap: Global, line: &[u8]) -> Result<Result<Record, Refusal>, All
     }
 }
 
-// What is asked: the settings, and the record that a flow at the line rate receives.
+// What is asked: the rule and the settings, and the record that a flow at the line rate receives.
 #[derive(Clone, Copy)]
 pub struct Question {
-    pub settings: Settings,
+    pub opening: Opening,
     pub said: Record,
 }
 
@@ -139,12 +186,12 @@ pub fn ask(heap: Global, input: &[u8]) -> Result<Result<Question, Refusal>, Allo
     ensures answer { λ r. ⌜ made r (λ q. told-question q ≡ asked (now (input .entry))) ⌝ }
 {
     let first = cut(input, b'\n');
-    let settings = match read_settings(heap, first.field)? {
-        Ok(settings) => settings,
+    let opening = match read_opening(heap, first.field)? {
+        Ok(opening) => opening,
         Err(refusal) => return Ok(Err(refusal)),
     };
     match read_record(heap, second_line(first.rest))? {
-        Ok(said) => Ok(Ok(Question { settings, said })),
+        Ok(said) => Ok(Ok(Question { opening, said })),
         Err(refusal) => Ok(Err(refusal)),
     }
 }

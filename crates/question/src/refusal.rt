@@ -6,10 +6,12 @@ use settings::fault::SettingsFault;
 // Why a question is refused.
 #[derive(Clone, Copy)]
 pub enum Refusal {
-    // The first line has not eight fields.
+    // The first line has not eight or nine fields.
     Fields,
     // A setting is no number.
     Number(SettingsFault),
+    // The ninth field is no letter of a rule.
+    Letter,
     Settings(SettingsFault),
     // The second line is not hexadecimal digits, two to a byte.
     Digits,
@@ -23,6 +25,7 @@ impl Refusal {
         match self {
             Refusal::Fields => 41,
             Refusal::Number(_) => 42,
+            Refusal::Letter => 40,
             Refusal::Settings(fault) => fault.number(),
             Refusal::Digits => 43,
             Refusal::Record(fault) => fault.number(),
@@ -36,6 +39,7 @@ impl Refusal {
         match self {
             Refusal::Fields => "the first line",
             Refusal::Number(setting) => setting_name(setting),
+            Refusal::Letter => "the ninth field",
             Refusal::Settings(setting) => setting_name(setting),
             Refusal::Digits => "the second line",
             Refusal::Record(_) => "the record",
@@ -47,8 +51,9 @@ impl Refusal {
         ensures answer { λ r. ⌜ now r ≡ complaint self ⌝ }
     {
         match self {
-            Refusal::Fields => "has not eight fields with one space between them",
+            Refusal::Fields => "has not eight or nine fields with one space between them",
             Refusal::Number(_) => "is not 1 to 10 digits that make at most 4294967295",
+            Refusal::Letter => "is not the letter of a rate rule, q or g",
             Refusal::Settings(setting) => range_complaint(setting),
             Refusal::Digits => "is not hexadecimal digits, two to a byte",
             Refusal::Record(fault) => record_complaint(fault),

@@ -47,7 +47,7 @@ target-ends f r s ends =
     (λ _. omega arith)
     (λ _. omega arith)
 
-raise-rises : (f : Figures) (line : ℕ) (r : Rates) (s : Stages) → r .current ≤ line → r .current ≤ r .target → r .target ≤ largest-target → Rises line r (raised-to f line r s)
+pub raise-rises : (f : Figures) (line : ℕ) (r : Rates) (s : Stages) → r .current ≤ line → r .current ≤ r .target → r .target ≤ largest-target → Rises line r (raised-to f line r s)
 raise-rises f line r s below ordered ends =
     let above = target-above f r s ordered ends in
     let most = target-ends f r s ends in

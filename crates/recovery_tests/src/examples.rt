@@ -12,12 +12,16 @@ fn starts(heap: Global, input: &str, line: &str) -> Result<(), Fail> {
 }
 
 // Each refusal number once, and records of 0, 1, 2, 3, 13, 14 and 15 bytes.
-const REFUSED: [(&str, &str); 21] = [
+const REFUSED: [(&str, &str); 22] = [
     ("1 2 3\n", "refused 41: the first line has"),
     ("", "refused 41: the first line has"),
     (
-        "1000000 8 5000 50000 1000 150000 16  2\n",
+        "1000000 8 5000 50000 1000 150000 16 2 q q\n",
         "refused 41: the first line has",
+    ),
+    (
+        "1000000 8 5000 50000 1000 150000 16 2 x\n",
+        "refused 40: the ninth field",
     ),
     (
         "1000000 8 5000 x 1000 150000 16 2\n",
@@ -96,6 +100,30 @@ fn refusals(rt: LibcRuntime) -> Result<(), Fail> {
         starts(rt.alloc(), input, line)?;
     }
     Ok(())
+}
+
+// A cut to 753,600 = 75 x 10,048: 750,000 is left. Half way to the target is 876,800, so 874,176 = 87 x 10,048.
+#[test]
+fn by_rungs(rt: LibcRuntime) -> Result<(), Fail> {
+    starts(
+        rt.alloc(),
+        "1000000 8 5000 50000 1000 150000 16 2 g\n000c010200000000010000000720\n",
+        "record: switch 02:00:00:00:00:01, flow 7, value 32\ncurrent rate: 1000000 kbit/s before the notice, 753600 kbit/s after it\nexpiry time_us stage current_kbit/s target_kbit/s\n1 1000 1 874176 1000000\n",
+    )
+}
+
+// The last rung below the line rate is left only by a target above 10,032,383, and step A adds 1 for each expiry.
+#[test]
+fn the_bound_is_told(rt: LibcRuntime) -> Result<(), Fail> {
+    let text = answer(
+        rt.alloc(),
+        b"10000000 8 1 1 1000 150000 16 2 g\n000c010200000000010000000720\n",
+    )?;
+    check(
+        text.as_str().ends_with(
+            "\nstopped at the bound, not back at the line rate after 1000 expiries, 502500 us after the notice\n",
+        ),
+    )
 }
 
 #[test]

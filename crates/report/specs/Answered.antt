@@ -8,7 +8,7 @@ use Rattle.std.specs.declared.result.Result.{Result}
 use Rattle.std.specs.declared.result.Result.the-variants.{Ok, Err}
 use Rattle.std.specs.Written.{decimal}
 use Rattle.rates.specs.Rule.{Rule}
-use Rattle.rates.specs.Standard.{standard}
+use Rattle.rates.specs.Chosen.{meant-by}
 use Rattle.record.specs.declared.Record.{Record}
 use Rattle.settings.specs.declared.figures.Figures.{Figures}
 use Rattle.question.specs.Asked.{Asked, asked}
@@ -37,7 +37,7 @@ abbrev pub refusal-text : Refusal → List ℕ
 refusal-text e = refusal-line (refusal-number e) (subject e) (complaint e)
 
 abbrev pub answered-with : Result Asked Refusal → List ℕ
-answered-with (Ok q) = report-text (standard (q .figures)) (q .figures) (q .said)
+answered-with (Ok q) = report-text (meant-by (q .opening .rule) (q .opening .figures)) (q .opening .figures) (q .said)
 answered-with (Err e) = refusal-text e
 
 -- The text for any input.

@@ -8,9 +8,9 @@ ghost use Rattle.report.specs.Text.{glyph, pair, station-text, record-text, cu
 ghost use Rattle.report.specs.Answered.{recovery-text, effect-text, report-text, refusal-text, answered};
 use question::reading::ask;
 use question::refusal::Refusal;
+use rates::chosen::ChosenRateRule;
+use rates::chosen::ChosenRule;
 use rates::rate_rule::RateRule;
-use rates::standard::Standard;
-use rates::standard::StandardRule;
 use record::Record;
 use settings::accepted::Settings;
 use silence::expiry::Expiry;
@@ -199,17 +199,16 @@ fn refusal_text(heap: Global, refusal: Refusal) -> Result<String, AllocError>
     format!(heap, "refused {number}: {subject} {complaint}\n")
 }
 
-// The whole answer to a question of two lines: the report by the standard rule, or the refusal.
+// The whole answer to a question of two lines: the report, or the refusal.
 pub fn answer(heap: Global, input: &[u8]) -> Result<String, AllocError>
     ensures answer { λ r. ⌜ made r (λ t. string-bytes t ≡ answered (now (input .entry))) ⌝ }
 {
     match ask(heap, input)? {
-        Ok(question) => report(
-            heap,
-            &Standard::new(question.settings),
-            &question.settings,
-            &question.said,
-        ),
+        Ok(question) => {
+            let opening = question.opening;
+            let rule = ChosenRule::new(opening.rule, opening.settings);
+            report(heap, &rule, &opening.settings, &question.said)
+        }
         Err(refusal) => refusal_text(heap, refusal),
     }
 }

@@ -10,3 +10,6 @@ returns-in-Number c = record { answer = sym (ap complaint (c .in-Number .is)) }
 
 pub returns-in-Digits : need.returns-in-Digits
 returns-in-Digits c = record { answer = sym (ap complaint (c .in-Digits .is)) }
+
+pub returns-in-Letter : need.returns-in-Letter
+returns-in-Letter c = record { answer = sym (ap complaint (c .in-Letter .is)) }

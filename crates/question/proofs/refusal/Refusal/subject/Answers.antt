@@ -10,3 +10,6 @@ returns-in-Digits c = record { answer = sym (ap subject (c .in-Digits .is)) }
 
 pub returns-in-Record : need.returns-in-Record
 returns-in-Record c = record { answer = sym (ap subject (c .in-Record .is)) }
+
+pub returns-in-Letter : need.returns-in-Letter
+returns-in-Letter c = record { answer = sym (ap subject (c .in-Letter .is)) }

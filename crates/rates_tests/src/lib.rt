@@ -1,0 +1,3 @@
+// Worked examples of the rung rule.
+#[cfg(test)]
+mod rungs;

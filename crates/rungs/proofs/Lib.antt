@@ -1,0 +1,2 @@
+pub mod RungLaws
+pub mod RungSearch
