@@ -1,3 +1,4 @@
 pub mod Conditions
 pub mod StandardLaws
 pub mod RungRuleLaws
+pub mod Values

@@ -1,0 +1,4 @@
+pub mod Feedback
+pub mod Quantized
+pub mod Runs
+pub mod Values

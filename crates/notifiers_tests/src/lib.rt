@@ -1,0 +1,3 @@
+// Worked examples of severity and of the notifiers.
+#[cfg(test)]
+mod sampling;

@@ -1,0 +1,7 @@
+-- The published values of the standard rule.
+use mathlib.Core.Path.{_≡_, refl}
+use borrow.Author.Needs.{needs}
+use Rattle.rates.specs.Published.{Published}
+
+pub published : Published
+published = search needs
