@@ -1,0 +1,4 @@
+pub mod Jumps
+pub mod Finding
+pub mod Mapping
+pub mod Keeping

@@ -1,0 +1,6 @@
+pub mod Step
+pub mod Wait
+pub mod Act
+pub mod Table
+pub mod Place
+pub mod Bounds

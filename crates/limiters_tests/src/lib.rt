@@ -1,0 +1,3 @@
+// Worked examples of limiters.
+#[cfg(test)]
+mod limits;
