@@ -2,3 +2,4 @@ pub mod Jumps
 pub mod Finding
 pub mod Mapping
 pub mod Keeping
+pub mod Singles

@@ -4,3 +4,4 @@ pub mod Act
 pub mod Table
 pub mod Place
 pub mod Bounds
+pub mod Single

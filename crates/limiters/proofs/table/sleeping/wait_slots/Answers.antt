@@ -7,6 +7,7 @@ use Rattle.std.proofs.shelf.Sums.{sumBy-more}
 use Rattle.limiters.specs.declared.limiter.Limiter.the-variants.{Free}
 use Rattle.limiters.specs.Wait.{micros, expiries}
 use Rattle.limiters.proofs.Mapping.{mapped-at, mapped-more, mapped-all}
+use Rattle.limiters.proofs.Singles.{stays-single}
 use Rattle.limiters.proofs.table.sleeping.wait_slots.Needs as need
 
 pub loop-slot-again : need.loop-slot-again
@@ -31,5 +32,6 @@ returns g c =
     let f = c .args .settings .now .figures in
     record {
       answer = c .loop-slot .inv .1 ∙ ap (sumBy (expiries rule f (c .args .wait))) (take-all _ _ (c .loop-slot-test .left));
+      single = stays-single rule f;
       after = mapped-all (micros rule f (c .args .wait)) (c .args .slots .now) (c .loop-slot .slots) (c .loop-slot .slot-index) (c .loop-slot-test .left) (c .loop-slot .inv .0);
     }
