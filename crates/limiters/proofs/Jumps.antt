@@ -94,7 +94,7 @@ module _ (rule : Rule) (f : Figures) where
       ∙ ap (λ credit. InService (expired f (timer-raised rule f r) credit r)) (earned-then r (suc k) (omega arith))
 
   -- the jump: as many microseconds as are left, and at least one
-  jump-from : (r : Row) (t : ℕ) → r .«time_left» ≡ t → (micros rule f (max t 1) (InService r) ≡ InService (expired f (timer-raised rule f r) (earned r (max t 1)) r)) × (expiries rule f (max t 1) (InService r) ≡ 1)
+  pub jump-from : (r : Row) (t : ℕ) → r .«time_left» ≡ t → (micros rule f (max t 1) (InService r) ≡ InService (expired f (timer-raised rule f r) (earned r (max t 1)) r)) × (expiries rule f (max t 1) (InService r) ≡ 1)
   jump-from r zero e = (one (InService r) ∙ tick-expires r (omega arith), expires-once r (omega arith))
   jump-from r (suc zero) e = (one (InService r) ∙ tick-expires r (omega arith), expires-once r (omega arith))
   jump-from r (suc (suc k)) e =

@@ -8,17 +8,18 @@ use lib.Dec.{eqb, ltb}
 use Rattle.std.proofs.shelf.Tests.{cond-both, ltb-true}
 use Rattle.settings.specs.Ranges.{In}
 use Rattle.settings.specs.declared.figures.Figures.{Figures}
-use Rattle.settings.specs.declared.fault.SettingsFault.the-variants.{Period}
+use Rattle.settings.specs.declared.fault.SettingsFault.the-variants.{LineRate, Period}
 use Rattle.rates.specs.Rule.{Rule, Lawful, raisable, largest-target}
 use Rattle.rates.specs.declared.rates.Rates.{Rates}
 use Rattle.rates.specs.declared.rates.Stages.{Stages}
 use Rattle.rates.proofs.Conditions.{Raisable, raisable-parts, raisable-from, raised-again, cut-again}
+use Rattle.limiters.specs.declared.limiter.Identity.{Identity}
 use Rattle.limiters.specs.declared.limiter.Limiter.{Limiter}
 use Rattle.limiters.specs.declared.limiter.Limiter.the-variants.{Free, InService}
 use Rattle.limiters.specs.declared.limiter.Row.{Row}
-use Rattle.limiters.specs.Act.{heard, sent, byte-raised}
+use Rattle.limiters.specs.Act.{heard, sent, taken, byte-raised}
 use Rattle.limiters.specs.Bounds.{In-bounds, Within, Hearing-keeps, Sending-keeps, Waiting-keeps, current-of, credit-of, earnings}
-use Rattle.limiters.specs.Step.{full-credit, risen, noticed, byte-end, charged, run, earned, passed, expired, ticked}
+use Rattle.limiters.specs.Step.{full-credit, risen, fresh, noticed, byte-end, charged, run, earned, passed, expired, ticked}
 use Rattle.limiters.specs.Wait.{rates-of, timer-raised, tick, micros}
 
 module _ (rule : Rule) (laws : Lawful rule) (f : Figures) (period : In Period f) where
@@ -29,7 +30,7 @@ module _ (rule : Rule) (laws : Lawful rule) (f : Figures) (period : In Period f)
   raised-ready : (r : Row) (s : Stages) → In-bounds rule f r → raisable (rule .floor) (f .«line_rate») (rule .raise (f .«line_rate») (rates-of r) s) ≡ true
   raised-ready r s h = raisable-from (rule .floor) (f .«line_rate») _ (raised-again rule laws (f .«line_rate») (rates-of r) s (ready-parts r h))
 
-  noticed-within : (v : ℕ) (r : Row) → In-bounds rule f r → In-bounds rule f (noticed f v (rule .cut (f .«line_rate») (r .current) v) r)
+  pub noticed-within : (v : ℕ) (r : Row) → In-bounds rule f r → In-bounds rule f (noticed f v (rule .cut (f .«line_rate») (r .current) v) r)
   noticed-within v r h =
       let before = ready-parts r h in
       let after = cut-again rule laws (f .«line_rate») (r .current) v (before .in-line) in
@@ -45,8 +46,25 @@ module _ (rule : Rule) (laws : Lawful rule) (f : Figures) (period : In Period f)
         time-most = omega arith;
       }
 
-  pub hearing : (v : ℕ) → Hearing-keeps rule f v
-  hearing v = record { keeps = keeps; lowers = λ r can. laws .cuts (f .«line_rate») (r .current) v can } where
+  -- a limiter that is taken is within bounds
+  pub fresh-within : In LineRate f → (who : Identity) → In-bounds rule f (fresh f who)
+  fresh-within line who = record {
+    ready = raisable-from (rule .floor) (f .«line_rate») _ (record {
+      in-line = record { line-low = line .0; line-high = line .1; from-floor = omega (arith, laws .floor-high, line .0); to-line = omega arith };
+      ordered = omega arith;
+      target-ends = omega (arith, line .1);
+    });
+    credit-full = omega arith;
+    time-some = omega (arith, period .0);
+    time-most = omega arith;
+  }
+
+  takes : In LineRate f → (who : Identity) (l : Limiter) → Within rule f l → Within rule f (taken f who l)
+  takes line who Free h = fresh-within line who
+  takes line who (InService r) h = h
+
+  pub hearing : In LineRate f → (v : ℕ) → Hearing-keeps rule f v
+  hearing line v = record { takes = takes line; keeps = keeps; lowers = λ r can. laws .cuts (f .«line_rate») (r .current) v can } where
     keeps : (l : Limiter) → Within rule f l → Within rule f (heard rule f v l)
     keeps Free h = tt
     keeps (InService r) h = cond-both (eqb v 0) (InService r) _ (Within rule f) (λ _. h) (λ _. noticed-within v r h)

@@ -4,10 +4,11 @@ use mathlib.Core.Bool.{true}
 use Prim.Native.Nat.{ℕ, zero, suc, _+_, _≤_}
 use Rattle.settings.specs.declared.figures.Figures.{Figures}
 use Rattle.rates.specs.Rule.{Rule, raisable, cuttable, Falls}
+use Rattle.limiters.specs.declared.limiter.Identity.{Identity}
 use Rattle.limiters.specs.declared.limiter.Limiter.{Limiter}
 use Rattle.limiters.specs.declared.limiter.Limiter.the-variants.{Free, InService}
 use Rattle.limiters.specs.declared.limiter.Row.{Row}
-use Rattle.limiters.specs.Act.{heard, sent}
+use Rattle.limiters.specs.Act.{heard, sent, taken}
 use Rattle.limiters.specs.Step.{full-credit, noticed}
 use Rattle.limiters.specs.Wait.{rates-of, tick, micros}
 
@@ -22,8 +23,9 @@ abbrev pub Within : Rule → Figures → Limiter → Type 0
 Within rule f Free = Unit {0}
 Within rule f (InService r) = In-bounds rule f r
 
--- A notice keeps a limiter within bounds. One of value 1 to 63 lowers a rate above the floor and leaves at least half.
+-- A limiter that is taken is within bounds, and a notice keeps it so. One of value 1 to 63 lowers a rate above the floor and leaves at least half.
 pub record Hearing-keeps (rule : Rule) (f : Figures) (value : ℕ) : Type 0 where
+  pub takes : (who : Identity) (l : Limiter) → Within rule f l → Within rule f (taken f who l)
   pub keeps : (l : Limiter) → Within rule f l → Within rule f (heard rule f value l)
   pub lowers : (r : Row) → cuttable (rule .floor) (f .«line_rate») (r .current) value ≡ true → Falls (rule .floor) (r .current) (noticed f value (rule .cut (f .«line_rate») (r .current) value) r .current)
 

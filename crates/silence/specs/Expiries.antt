@@ -3,47 +3,31 @@ use mathlib.Core.Path.{_≡_}
 use mathlib.Core.Bool.{cond}
 use mathlib.Core.List.{List, [], _∷_}
 use mathlib.Core.Logic.{_⊎_}
-use Prim.Native.Nat.{ℕ, zero, suc, _+_, _/_, _<_, _≤_, min}
-use lib.Dec.{ltb, eqb}
+use Prim.Native.Nat.{ℕ, zero, suc, _<_, _≤_}
+use lib.Dec.{eqb}
 use lib.ListN.{length}
 use Rattle.settings.specs.declared.figures.Figures.{Figures}
 use Rattle.rates.specs.Rule.{Rule}
 use Rattle.silence.specs.declared.expiry.Expiry.{Expiry}
+use Rattle.silence.specs.declared.expiry.Stand.{Stand}
+use Rattle.silence.specs.Stands.{shown, strike-stand, next-stand}
 
 -- The most expiries that are followed.
 abbrev pub bound : ℕ
 bound = 1000
 
--- The timer runs for a period while its stage is below 5, and for half a period from 5 on.
-abbrev pub pause : Figures → ℕ → ℕ
-pause f stage = cond (ltb stage 5) (f .period) (f .period / 2)
-
 module _ (rule : Rule) (f : Figures) where
   -- A flow at the line rate, cut by a notice.
   abbrev pub struck : ℕ → Expiry
-  struck value = record {
-    number = 0;
-    time = 0;
-    stage = 0;
-    rates = record { current = rule .cut (f .«line_rate») (f .«line_rate») value; target = f .«line_rate» };
-  }
+  struck value = shown (strike-stand rule f value)
 
-  -- An expiry raises the timer stage by one, to at most 255, and then both rates.
-  abbrev pub next : Expiry → Expiry
-  next e = record {
-    number = e .number + 1;
-    time = e .time + pause f (e .stage);
-    stage = min (e .stage + 1) 255;
-    rates = rule .raise (f .«line_rate») (e .rates) (record { byte = 0; timer = min (e .stage + 1) 255 });
-  }
-
-  -- The expiries after e until the current rate is the line rate, at most so many.
-  unfoldable pub expiries : ℕ → Expiry → List Expiry
-  expiries zero e = []
-  expiries (suc n) e = cond (eqb (e .rates .current) (f .«line_rate»)) [] (next e ∷ expiries n (next e))
+  -- What is told of the expiries after s until the current rate is the line rate, at most so many.
+  unfoldable pub expiries : ℕ → Stand → List Expiry
+  expiries zero s = []
+  expiries (suc n) s = cond (eqb (shown s .rates .current) (f .«line_rate»)) [] (shown (next-stand rule f s) ∷ expiries n (next-stand rule f s))
 
   abbrev pub recovery : ℕ → List Expiry
-  recovery value = expiries bound (struck value)
+  recovery value = expiries bound (strike-stand rule f value)
 
 -- Time goes on, and the current rate does not fall and stays below the line rate until the last expiry, which may reach it.
 abbrev pub Climbs : ℕ → Expiry → List Expiry → Type 0

@@ -2,13 +2,13 @@ ghost use mathlib.Core.Path.{_≡_};
 ghost use Prim.Native.Nat.{_+_, _≤_, _<_};
 ghost use Rattle.std.specs.Of.Vec.{vec-items};
 ghost use Rattle.std.specs.Vec.{made};
-ghost use Rattle.silence.specs.Expiries.{pause, next, struck, Climbs-back};
-ghost use Rattle.rates.specs.Rule.{raisable};
+ghost use Rattle.silence.specs.Expiries.{Climbs-back};
 ghost use Rattle.silence.specs.Recovery.{Follows, Recovered};
-ghost use mathlib.Core.Bool.{true};
+ghost use Rattle.silence.specs.Stands.{shown, time-left, next-stand, strike-stand, Serving-within};
+use limiters::limiter::Identity;
+use limiters::limiter::Limiter;
 use rates::rate_rule::RateRule;
 use rates::rates::Rates;
-use rates::rates::Stages;
 use settings::accepted::Settings;
 use std::alloc::AllocError;
 use std::alloc::Global;
@@ -16,10 +16,10 @@ use std::alloc::Global;
 // The most expiries that are followed.
 pub const MOST_EXPIRIES: u32 = 1000;
 
-// From this stage on the timer runs for half a period.
-const HALF_PERIOD_STAGE: u8 = 5;
+// Which flow is limited makes no difference here.
+const FLOW: u32 = 0;
 
-// A limiter as an expiry of its timer leaves it, or, with the number 0, the notice.
+// What is told of an expiry of a limiter's timer, or, with the number 0, of the notice.
 #[derive(Clone, Copy)]
 pub struct Expiry {
     pub number: u32,
@@ -29,52 +29,77 @@ pub struct Expiry {
     pub rates: Rates,
 }
 
-// How long the timer runs after an expiry that left it at `stage`, µs.
-fn pause(settings: &Settings, stage: u8) -> u32
-    ensures answer { λ r. ⌜ r ≡ pause (now (settings .entry) .figures) stage ⌝ }
-    ensures bound { λ r. ⌜ r ≤ 100000 ⌝ }
+// A silent flow's limiter, so many expiries and so long after the notice.
+#[derive(Clone, Copy)]
+struct Stand {
+    number: u32,
+    time: u32,
+    limiter: Limiter,
+}
+
+fn shown(stand: Stand) -> Expiry
+    ensures answer { λ r. ⌜ r ≡ shown stand ⌝ }
 {
-    if stage < HALF_PERIOD_STAGE {
-        settings.period()
-    } else {
-        settings.period() / 2
+    match stand.limiter {
+        Limiter::Free => Expiry {
+            number: stand.number,
+            time: stand.time,
+            stage: 0,
+            rates: Rates {
+                current: 0,
+                target: 0,
+            },
+        },
+        Limiter::InService(row) => Expiry {
+            number: stand.number,
+            time: stand.time,
+            stage: row.timer_stage,
+            rates: Rates {
+                current: row.current,
+                target: row.target,
+            },
+        },
     }
 }
 
-fn next<R: RateRule>(rule: &R, settings: &Settings, last: Expiry) -> Expiry
+fn time_left(limiter: Limiter) -> u32
+    ensures answer { λ r. ⌜ r ≡ time-left limiter ⌝ }
+{
+    match limiter {
+        Limiter::Free => 0,
+        Limiter::InService(row) => row.time_left,
+    }
+}
+
+// Waits for the next expiry.
+fn next<R: RateRule>(rule: &R, settings: &Settings, last: Stand) -> Stand
     requires number { ⌜ last .number < 1000 ⌝ }
     requires time { ⌜ last .time ≤ 100000000 ⌝ }
-    ensures answer { λ r. ⌜ r ≡ next (R·RateRule .meaning (now (rule .entry))) (now (settings .entry) .figures) last ⌝ }
-    ensures bound { λ r. ⌜ r .time ≤ last .time + 100000 ⌝ }
+    requires soon { ⌜ time-left (last .limiter) ≤ 100000 ⌝ }
+    ensures answer { λ r. ⌜ r ≡ next-stand (R·RateRule .meaning (now (rule .entry))) (now (settings .entry) .figures) last ⌝ }
 {
-    let stage = last.stage.saturating_add(1);
-    let stages = Stages {
-        byte: 0,
-        timer: stage,
-    };
-    Expiry {
+    let wait = time_left(last.limiter);
+    let mut limiter = last.limiter;
+    limiter.wait(rule, settings, wait);
+    Stand {
         number: last.number + 1,
-        time: last.time + pause(settings, last.stage),
-        stage,
-        rates: rule.raise(settings.line_rate(), last.rates, stages),
+        time: last.time + wait,
+        limiter,
     }
 }
 
-// A flow at the line rate, just after a notice of `value`.
-fn strike<R: RateRule>(rule: &R, settings: &Settings, value: u8) -> Expiry
-    ensures answer { λ r. ⌜ r ≡ struck (R·RateRule .meaning (now (rule .entry))) (now (settings .entry) .figures) value ⌝ }
-    ensures ready { λ r. ⌜ raisable (R·RateRule .meaning (now (rule .entry)) .floor) (now (settings .entry) .figures .«line_rate») (r .rates) ≡ true ⌝ }
+// A flow at the line rate, just after a notice of `value`: its limiter is taken, and hears it.
+fn strike<R: RateRule>(rule: &R, settings: &Settings, value: u8) -> Stand
+    ensures answer { λ r. ⌜ r ≡ strike-stand (R·RateRule .meaning (now (rule .entry))) (now (settings .entry) .figures) value ⌝ }
+    ensures within { λ r. ⌜ Serving-within (R·RateRule .meaning (now (rule .entry))) (now (settings .entry) .figures) (r .limiter) ⌝ }
 {
-    let line_rate = settings.line_rate();
-    let current = rule.cut(line_rate, line_rate, value);
-    Expiry {
+    let mut limiter = Limiter::Free;
+    limiter.take(settings, Identity { flow: FLOW });
+    limiter.hear(rule, settings, value);
+    Stand {
         number: 0,
         time: 0,
-        stage: 0,
-        rates: Rates {
-            current,
-            target: line_rate,
-        },
+        limiter,
     }
 }
 
@@ -91,24 +116,30 @@ fn follow<R: RateRule>(
     heap: Global,
     rule: &R,
     settings: &Settings,
-    start: Expiry,
+    start: Stand,
 ) -> Result<Recovery, AllocError>
     requires number { ⌜ start .number ≡ 0 ⌝ }
     requires time { ⌜ start .time ≡ 0 ⌝ }
-    requires ready { ⌜ raisable (R·RateRule .meaning (now rule) .floor) (now settings .figures .«line_rate») (start .rates) ≡ true ⌝ }
+    requires within { ⌜ Serving-within (R·RateRule .meaning (now rule)) (now settings .figures) (start .limiter) ⌝ }
     ensures answer { λ r. ⌜ made r (Follows (R·RateRule .meaning (now (rule .entry))) (now (settings .entry) .figures) start) ⌝ }
     ensures law { λ r. ⌜ made r (λ v. Climbs-back (now (settings .entry) .figures .«line_rate») (v .start) (vec-items (v .rows))) ⌝ }
 {
     let mut rows = Vec::new(heap);
-    let mut end = start;
+    let mut stand = start;
+    let mut end = shown(start);
     for _ in 0..MOST_EXPIRIES {
         if end.rates.current == settings.line_rate() {
             break;
         }
-        end = next(rule, settings, end);
+        stand = next(rule, settings, stand);
+        end = shown(stand);
         rows.push(end)?;
     }
-    Ok(Recovery { start, rows, end })
+    Ok(Recovery {
+        start: shown(start),
+        rows,
+        end,
+    })
 }
 
 // What follows a notice of `value` to a flow at the line rate that then stays silent.
