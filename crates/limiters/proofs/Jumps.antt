@@ -1,18 +1,15 @@
 -- Jumps are single microseconds.
-use mathlib.Core.Path.{_≡_, refl, sym, ap, subst, _∙_}
-use mathlib.Core.Bool.{cond}
-use mathlib.Core.Logic.{⊎-elim}
+use mathlib.Core.Path.{_≡_, refl, sym, ap, _∙_}
 use Prim.Native.Nat.{ℕ, zero, suc, _+_, _-_, _*_, _≤_, _<_, min, max}
 use native.Mathlib.Nat.{zero-add, suc-add, add-assoc, suc-mul, one-mul}
 use native.Mathlib.Omega.{arith}
-use lib.Dec.{ltb}
-use Rattle.std.proofs.shelf.Tests.{cond-true, cond-false, lt-ltb, le-ltb, cases-lt}
+use Rattle.std.proofs.shelf.Tests.{cond-true, cond-false, lt-ltb, le-ltb}
 use Rattle.settings.specs.declared.figures.Figures.{Figures}
 use Rattle.rates.specs.Rule.{Rule}
 use Rattle.limiters.specs.declared.limiter.Limiter.{Limiter}
 use Rattle.limiters.specs.declared.limiter.Limiter.the-variants.{Free, InService}
 use Rattle.limiters.specs.declared.limiter.Row.{Row}
-use Rattle.limiters.specs.Step.{full-credit, earned, expired, passed, ticked}
+use Rattle.limiters.specs.Step.{full-credit, earned, expired, passed}
 use Rattle.limiters.specs.Wait.{timer-raised, tick, expires, micros, expiries, Adds-up}
 
 -- a row with another time left and another credit

@@ -1,7 +1,7 @@
 -- Every event keeps a limiter within bounds.
-use mathlib.Core.Path.{_≡_, refl}
+use mathlib.Core.Path.{_≡_}
 use mathlib.Core.Bool.{true, cond}
-use Prim.Native.Nat.{ℕ, zero, suc, _+_, _-_, _/_, _≤_, _<_}
+use Prim.Native.Nat.{ℕ, zero, suc, _+_, _-_, _/_, _≤_}
 use native.Mathlib.Nat.{one-mul}
 use native.Mathlib.Omega.{arith}
 use lib.Dec.{eqb, ltb}
@@ -10,16 +10,15 @@ use Rattle.settings.specs.Ranges.{In}
 use Rattle.settings.specs.declared.figures.Figures.{Figures}
 use Rattle.settings.specs.declared.fault.SettingsFault.the-variants.{LineRate, Period}
 use Rattle.rates.specs.Rule.{Rule, Lawful, raisable, largest-target}
-use Rattle.rates.specs.declared.rates.Rates.{Rates}
 use Rattle.rates.specs.declared.rates.Stages.{Stages}
 use Rattle.rates.proofs.Conditions.{Raisable, raisable-parts, raisable-from, raised-again, cut-again}
 use Rattle.limiters.specs.declared.limiter.Identity.{Identity}
 use Rattle.limiters.specs.declared.limiter.Limiter.{Limiter}
 use Rattle.limiters.specs.declared.limiter.Limiter.the-variants.{Free, InService}
 use Rattle.limiters.specs.declared.limiter.Row.{Row}
-use Rattle.limiters.specs.Act.{heard, sent, taken, byte-raised}
+use Rattle.limiters.specs.Act.{heard, taken, byte-raised}
 use Rattle.limiters.specs.Bounds.{In-bounds, Within, Hearing-keeps, Sending-keeps, Waiting-keeps, current-of, credit-of, earnings}
-use Rattle.limiters.specs.Step.{full-credit, risen, fresh, noticed, byte-end, charged, run, earned, passed, expired, ticked}
+use Rattle.limiters.specs.Step.{risen, fresh, noticed, byte-end, charged, run, earned, passed, expired}
 use Rattle.limiters.specs.Wait.{rates-of, timer-raised, tick, micros}
 
 module _ (rule : Rule) (laws : Lawful rule) (f : Figures) (period : In Period f) where

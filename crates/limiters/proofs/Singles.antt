@@ -3,13 +3,13 @@ use mathlib.Core.Path.{_≡_, refl, sym, ap, subst, _∙_}
 use mathlib.Core.Bool.{Bool, true, false, cond}
 use mathlib.Core.List.{List, [], _∷_, map}
 use mathlib.Core.Logic.{⊎-elim}
-use Prim.Native.Nat.{ℕ, zero, suc, _+_, _≤_, _<_}
+use Prim.Native.Nat.{ℕ, zero, suc, _+_, _<_}
 use native.Mathlib.Omega.{arith}
 use lib.Dec.{eqb, ltb}
-use lib.ListN.{length, getD, set, take, drop, length-set}
+use lib.ListN.{length, getD, set, length-set}
 use lib.Seq.{getD-set-same, getD-set-other}
 use Rattle.std.proofs.shelf.Lists.{take-all, getD-map, length-map}
-use Rattle.std.proofs.shelf.Tests.{cond-both, cond-true, cases-eq, cases-bool, eqb-true, eq-eqb, true≢false}
+use Rattle.std.proofs.shelf.Tests.{cond-both, cases-eq, cases-bool, eqb-true, true≢false}
 use Rattle.std.specs.declared.option.Option.{Option}
 use Rattle.std.specs.declared.option.Option.the-variants.{Some, None}
 use Rattle.settings.specs.declared.figures.Figures.{Figures}
@@ -17,14 +17,13 @@ use Rattle.rates.specs.Rule.{Rule}
 use Rattle.limiters.specs.declared.limiter.Identity.{Identity}
 use Rattle.limiters.specs.declared.limiter.Limiter.{Limiter}
 use Rattle.limiters.specs.declared.limiter.Limiter.the-variants.{Free, InService}
-use Rattle.limiters.specs.declared.limiter.Row.{Row}
 use Rattle.limiters.specs.declared.table.searching.Sought.{Sought}
 use Rattle.limiters.specs.declared.table.searching.Sought.the-variants.{Serving}
 use Rattle.limiters.specs.Act.{heard, sent, taken, byte-raised}
-use Rattle.limiters.specs.Place.{slots-by, slots-after, sent-by}
+use Rattle.limiters.specs.Place.{slots-by, sent-by}
 use Rattle.limiters.specs.Single.{Single, Stays-single}
 use Rattle.limiters.specs.Step.{noticed, charged, byte-end, passed, expired, earned}
-use Rattle.limiters.specs.Table.{fits, first-in, part, serving, first-free}
+use Rattle.limiters.specs.Table.{fits, first-in, serving, first-free}
 use Rattle.limiters.specs.Wait.{timer-raised, tick, micros}
 
 abbrev identity : ℕ → Identity

@@ -1,5 +1,5 @@
 -- A limiter under a rate rule: the rule is asked, and the event carries its answer.
-use mathlib.Core.Bool.{Bool, true, cond, not, _&&_}
+use mathlib.Core.Bool.{Bool, true, not, _&&_}
 use Prim.Native.Nat.{ℕ}
 use lib.Dec.{ltb}
 use Rattle.settings.specs.declared.figures.Figures.{Figures}

@@ -1,5 +1,5 @@
 -- What each event does to a limiter.
-use mathlib.Core.Bool.{Bool, cond}
+use mathlib.Core.Bool.{cond}
 use Prim.Native.Nat.{ℕ, _+_, _-_, _*_, _/_, min, max}
 use lib.Dec.{ltb, eqb}
 use Rattle.settings.specs.declared.figures.Figures.{Figures}

@@ -1,7 +1,7 @@
 -- The table of limiters: finding the one that serves, and a free one.
 use mathlib.Core.Bool.{Bool, true, false, cond}
 use mathlib.Core.List.{List, [], _∷_}
-use Prim.Native.Nat.{ℕ, suc, _+_, _-_, _<_}
+use Prim.Native.Nat.{ℕ, _+_, _-_, _<_}
 use lib.Dec.{eqb}
 use lib.ListN.{take, drop}
 use Rattle.std.specs.declared.option.Option.{Option}

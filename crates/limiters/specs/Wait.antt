@@ -1,7 +1,7 @@
 -- Waiting: single microseconds, one after another.
 use mathlib.Core.Path.{_≡_}
 use mathlib.Core.Bool.{cond}
-use Prim.Native.Nat.{ℕ, zero, suc, _+_, _≤_}
+use Prim.Native.Nat.{ℕ, zero, suc, _+_}
 use lib.Dec.{ltb}
 use Rattle.settings.specs.declared.figures.Figures.{Figures}
 use Rattle.rates.specs.Rule.{Rule}

@@ -1,15 +1,15 @@
 -- What any notifier keeps over any frames.
 use mathlib.Core.Path.{_≡_, refl, sym, ap, subst, _∙_}
-use mathlib.Core.Bool.{Bool, true, false, cond, _&&_, _||_}
+use mathlib.Core.Bool.{Bool, true, false, _&&_, _||_}
 use mathlib.Core.List.{List, [], _∷_, _++_, append-assoc}
 use mathlib.Core.Logic.{⊎-elim}
-use Prim.Native.Nat.{ℕ, suc, _+_, _≤_, _<_}
+use Prim.Native.Nat.{ℕ, _+_, _≤_, _<_}
 use native.Mathlib.Numerals.{add-one}
 use native.Mathlib.Omega.{arith}
 use lib.Dec.{leb, eqb}
 use lib.ListN.{length, getD, drop}
 use lib.Seq.{drop-cons}
-use Rattle.std.proofs.shelf.Tests.{cond-true, cond-false, cond-both, and-from, and-left, and-right, or-from, or-cases, cases-bool, cases-lt, eqb-true, eqb-false, leb-true, leb-false, or-parts, and-cases, true≢false, ne-eqb, lt-leb}
+use Rattle.std.proofs.shelf.Tests.{cond-true, cond-false, cond-both, and-from, and-left, and-right, or-from, cases-bool, cases-lt, leb-false, or-parts, and-cases, true≢false, ne-eqb, lt-leb}
 use Rattle.notifiers.specs.declared.shown.Shown.{Shown}
 use Rattle.notifiers.specs.declared.shown.Showing.{Showing}
 use Rattle.notifiers.specs.declared.shown.Showing.the-variants.{Unsampled, Quiet, Notice}

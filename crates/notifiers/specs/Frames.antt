@@ -1,5 +1,5 @@
 -- Sampling by frames.
-use mathlib.Core.Bool.{Bool, true, false, cond, _||_}
+use mathlib.Core.Bool.{Bool, false, cond, _||_}
 use Prim.Native.Nat.{ℕ, _+_, _*_, _/_}
 use lib.Dec.{leb, ltb}
 use Rattle.settings.specs.declared.accepted.Settings.{Settings}

@@ -1,5 +1,5 @@
 -- What a notifier means: what it is shown, what it answers, and what becomes of it.
-use mathlib.Core.Bool.{Bool, true, false, cond, _&&_, _||_}
+use mathlib.Core.Bool.{Bool, cond, _&&_, _||_}
 use Prim.Native.Nat.{ℕ, _+_}
 use lib.Dec.{leb, eqb}
 use Rattle.notifiers.specs.declared.shown.Shown.{Shown}

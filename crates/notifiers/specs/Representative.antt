@@ -1,5 +1,5 @@
 -- The layer that withholds.
-use mathlib.Core.Bool.{Bool, true, false, cond}
+use mathlib.Core.Bool.{true, cond}
 use Prim.Native.Nat.{ℕ}
 use lib.Dec.{leb}
 use Rattle.notifiers.specs.declared.representative.Representative.{Representative}

@@ -1,8 +1,7 @@
 -- The rung rule shows what every rule shows.
 use mathlib.Core.Path.{_≡_, refl, sym, subst}
-use mathlib.Core.Bool.{cond}
 use mathlib.Core.Logic.{⊎-elim}
-use Prim.Native.Nat.{ℕ, suc, _+_, _*_, _/_, _≤_, _<_, min, max}
+use Prim.Native.Nat.{ℕ, suc, _+_, _/_, _≤_, _<_, max}
 use native.Mathlib.Omega.{arith}
 use lib.Dec.{ltb, eqb}
 use Rattle.std.proofs.shelf.Tests.{cond-both, cases-lt, eqb-true, ltb-true, ltb-false}
@@ -18,7 +17,7 @@ use Rattle.rates.specs.Rule.{Falls, Rises, Lawful}
 use Rattle.rungs.specs.Rungs.{rung, count, Is-rung, Greatest-below, Least-from, greatest-below, least-from}
 use Rattle.rates.specs.RungRule.{rung-floor, rung-cut, rung-cut-to, rung-current, rung-raised-to, by-rungs}
 use Rattle.rates.specs.Standard.{reduced, raised-to}
-use Rattle.rates.proofs.Conditions.{Bounded, lawful}
+use Rattle.rates.proofs.Conditions.{lawful}
 use Rattle.rungs.proofs.RungLaws.{next-above, next-twice, rising-to}
 use Rattle.rungs.proofs.RungSearch.{greatest-is, least-is}
 use Rattle.rates.proofs.StandardLaws.{reduced-half, reduced-lower, raise-rises}

@@ -1,8 +1,7 @@
 -- The standard rule shows what every rule shows.
-use mathlib.Core.Path.{_≡_}
-use mathlib.Core.Bool.{Bool, true, false, cond, _&&_}
-use Prim.Native.Nat.{ℕ, _+_, _-_, _*_, _/_, _≤_, _<_, min, max}
-use native.Mathlib.Nat.{mul-le-mul-left, sub-le}
+use mathlib.Core.Bool.{_&&_}
+use Prim.Native.Nat.{ℕ, _-_, _*_, _/_, _≤_, _<_}
+use native.Mathlib.Nat.{mul-le-mul-left}
 use native.Mathlib.Omega.{arith}
 use lib.Dec.{eqb, ltb}
 use Rattle.std.proofs.shelf.Bits.{mul-le}
@@ -13,8 +12,8 @@ use Rattle.settings.specs.declared.fault.SettingsFault.the-variants.{Gain}
 use Rattle.rates.specs.declared.rates.Rates.{Rates}
 use Rattle.rates.specs.declared.rates.Stages.{Stages}
 use Rattle.rates.specs.Rule.{Falls, Rises, Lawful, largest-target}
-use Rattle.rates.specs.Standard.{standard, standard-floor, decrease, reduced, cut-to, extra, next-target, raised-to}
-use Rattle.rates.proofs.Conditions.{Bounded, Shown, lawful}
+use Rattle.rates.specs.Standard.{standard, standard-floor, decrease, reduced, cut-to, next-target, raised-to}
+use Rattle.rates.proofs.Conditions.{lawful}
 
 module _ (f : Figures) (gain : In Gain f) (value : ℕ) (low : 1 ≤ value) where
   decrease-low : 1 ≤ decrease f value

@@ -1,5 +1,4 @@
 -- The published values of the standard rule.
-use mathlib.Core.Path.{_≡_, refl}
 use borrow.Author.Needs.{needs}
 use Rattle.rates.specs.Published.{Published}
 

@@ -1,7 +1,7 @@
 -- The standard rule, with the gain and the steps of the settings.
 use mathlib.Core.Bool.{cond, _&&_, _||_}
 use Prim.Native.Nat.{ℕ, _+_, _-_, _*_, _/_, min, max}
-use lib.Dec.{leb, ltb, eqb}
+use lib.Dec.{ltb, eqb}
 use Rattle.settings.specs.declared.figures.Figures.{Figures}
 use Rattle.rates.specs.declared.rates.Rates.{Rates}
 use Rattle.rates.specs.declared.rates.Stages.{Stages}

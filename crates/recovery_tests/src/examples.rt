@@ -1,5 +1,4 @@
 use record::Record;
-use record::WriteFault;
 use record::write;
 use report::telling::answer;
 use std::alloc::Global;

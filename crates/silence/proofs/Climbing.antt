@@ -1,6 +1,5 @@
 -- A silent flow climbs to the line rate.
 use mathlib.Core.Path.{_≡_, refl, sym, ap, subst, _∙_}
-use mathlib.Core.Bool.{true, cond}
 use mathlib.Core.List.{List, [], _∷_, _++_}
 use mathlib.Core.Logic.{_⊎_, inl, inr, ⊎-elim}
 use Prim.Native.Nat.{ℕ, zero, suc, _+_, _-_, _≤_, _<_, max}
@@ -11,9 +10,9 @@ use Rattle.std.proofs.shelf.Tests.{cond-true, cond-false, cond-both, eq-eqb, ne
 use Rattle.settings.specs.Ranges.{In}
 use Rattle.settings.specs.declared.figures.Figures.{Figures}
 use Rattle.settings.specs.declared.fault.SettingsFault.the-variants.{LineRate, Period}
-use Rattle.rates.specs.Rule.{Rule, Lawful, raisable}
-use Rattle.rates.proofs.Conditions.{Raisable, raisable-parts, raisable-from}
-use Rattle.limiters.specs.Act.{heard, taken}
+use Rattle.rates.specs.Rule.{Rule, Lawful}
+use Rattle.rates.proofs.Conditions.{raisable-parts}
+use Rattle.limiters.specs.Act.{taken}
 use Rattle.limiters.specs.Bounds.{In-bounds, Within}
 use Rattle.limiters.specs.Step.{earned, expired, fresh, noticed}
 use Rattle.limiters.specs.Wait.{micros, timer-raised, rates-of}
@@ -24,7 +23,7 @@ use Rattle.limiters.specs.declared.limiter.Limiter.the-variants.{Free, InServic
 use Rattle.limiters.specs.declared.limiter.Row.{Row}
 use Rattle.silence.specs.declared.expiry.Expiry.{Expiry}
 use Rattle.silence.specs.declared.expiry.Stand.{Stand}
-use Rattle.silence.specs.Expiries.{bound, struck, expiries, recovery, Climbs, last, Ends, Climbs-back}
+use Rattle.silence.specs.Expiries.{bound, expiries, Climbs, last, Climbs-back}
 use Rattle.silence.specs.Stands.{shown, time-left, Serving-within, strike-stand, next-stand}
 
 module _ (rule : Rule) (f : Figures) where

@@ -1,5 +1,4 @@
 -- A silent flow's limiter, from expiry to expiry.
-use mathlib.Core.Path.{_≡_}
 use Prim.Native.Nat.{ℕ, _+_}
 use Rattle.settings.specs.declared.figures.Figures.{Figures}
 use Rattle.rates.specs.Rule.{Rule}

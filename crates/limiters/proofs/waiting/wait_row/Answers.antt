@@ -1,9 +1,8 @@
 use mathlib.Core.Path.{_≡_, sym, ap, _∙_}
-use Prim.Native.Nat.{_+_, _-_, _<_, max}
-use native.Mathlib.Nat.{add-assoc}
+use Prim.Native.Nat.{_-_, _<_, max}
 use native.Mathlib.Omega.{arith}
 use Rattle.limiters.specs.declared.limiter.Limiter.the-variants.{InService}
-use Rattle.limiters.specs.Wait.{micros, expiries}
+use Rattle.limiters.specs.Wait.{micros}
 use Rattle.limiters.proofs.Jumps.{adds-up, jump-turn, rest, rest-none, micros-none}
 use Rattle.limiters.proofs.Keeping.{waiting}
 use Rattle.limiters.proofs.waiting.wait_row.Needs as need

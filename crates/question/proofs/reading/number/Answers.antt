@@ -1,4 +1,4 @@
-use mathlib.Core.Path.{_≡_, sym, ap, _∙_}
+use mathlib.Core.Path.{ap, _∙_}
 use Rattle.fields.specs.Decimals.{decimal-of}
 use Rattle.question.specs.Questions.{number-said, number-of}
 use Rattle.question.proofs.reading.number.Needs as need

@@ -1,6 +1,6 @@
 use mathlib.Core.List.{map}
 use denote.Ref.{now}
-use mathlib.Core.Path.{_≡_, ap, _∙_}
+use mathlib.Core.Path.{ap, _∙_}
 use Rattle.question.specs.Asked.{opening-said}
 use Rattle.question.specs.Questions.{opening-of}
 use Rattle.question.proofs.reading.read_opening.Needs as need

@@ -1,4 +1,4 @@
-use mathlib.Core.Path.{_≡_, sym, ap, subst, _∙_}
+use mathlib.Core.Path.{sym, ap, subst, _∙_}
 use Rattle.std.specs.declared.result.Result.the-variants.{Err}
 use Rattle.fields.specs.Hexadecimals.{Written}
 use Rattle.question.specs.Questions.{record-of, record-from, record-said}

@@ -1,5 +1,5 @@
 use mathlib.Core.List.{_++_}
-use mathlib.Core.Path.{_≡_, ap, _∙_}
+use mathlib.Core.Path.{ap, _∙_}
 use Rattle.std.proofs.shelf.Results.{made-weaker}
 use Rattle.report.specs.Text.{when-text}
 use Rattle.report.proofs.telling.closing_text.Needs as need

@@ -1,7 +1,7 @@
-use mathlib.Core.Path.{_≡_, ap, _∙_}
+use mathlib.Core.Path.{ap, _∙_}
 use Rattle.std.proofs.shelf.Results.{made-weaker}
 use Rattle.report.specs.Answered.{refusal-line}
-use Rattle.question.specs.Refusals.{refusal-number, subject, complaint}
+use Rattle.question.specs.Refusals.{refusal-number, subject}
 use Rattle.report.proofs.telling.refusal_text.Needs as need
 
 pub returns : need.returns

@@ -1,9 +1,6 @@
-use mathlib.Core.Logic.{⊎-elim}
-use mathlib.Core.Path.{_≡_, ap}
-use Prim.Native.Nat.{ℕ, _+_, _/_, _≤_, _<_}
+use Prim.Native.Nat.{_+_, _/_}
 use native.Mathlib.Omega.{arith}
-use Rattle.std.proofs.shelf.Tests.{cases-lt}
-use Rattle.rungs.specs.Rungs.{rung, count}
+use Rattle.rungs.specs.Rungs.{rung}
 use Rattle.rungs.proofs.RungLaws.{rising-to}
 use Rattle.rungs.proofs.looking.count_below.Needs as need
 

@@ -1,5 +1,4 @@
 use mathlib.Core.Path.{_≡_, sym, subst}
-use native.Mathlib.Omega.{arith}
 use Rattle.std.specs.declared.option.Option.the-variants.{Some}
 use Rattle.rungs.specs.Rungs.{least-from, Least-from}
 use Rattle.rungs.proofs.RungSearch.{from-none, from-some}

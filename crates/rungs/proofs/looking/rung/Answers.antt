@@ -1,4 +1,4 @@
-use mathlib.Core.Path.{_≡_, ap, _∙_}
+use mathlib.Core.Path.{ap, _∙_}
 use native.Mathlib.Nat.{zero-add}
 use Rattle.rungs.specs.Rungs.{rung}
 use Rattle.rungs.proofs.RungLaws.{listed-at}

@@ -1,13 +1,13 @@
-use mathlib.Core.List.{List, [], _∷_, _++_, append-nil, append-assoc}
-use mathlib.Core.Path.{_≡_, refl, sym, ap, subst, _∙_}
-use Prim.Native.Nat.{suc, _+_, _-_, _≤_}
+use mathlib.Core.List.{[], _∷_, _++_, append-nil, append-assoc}
+use mathlib.Core.Path.{_≡_, sym, ap, subst, _∙_}
+use Prim.Native.Nat.{suc, _+_, _-_}
 use native.Mathlib.Omega.{arith}
 use Rattle.std.proofs.Told.{chosen}
 use Rattle.std.proofs.shelf.Results.{made-from-err}
 use Rattle.std.specs.Of.Vec.{vec-items}
 use Rattle.std.specs.Results.{isOk}
 use Rattle.silence.specs.Expiries.{bound, expiries, last, Climbs-back}
-use Rattle.silence.specs.Stands.{shown, time-left, next-stand, Serving-within}
+use Rattle.silence.specs.Stands.{shown, next-stand, Serving-within}
 use Rattle.silence.proofs.Climbing.{expiries-end, expiries-more, expiries-none, last-push, climbs-back, step-within, step-soon}
 use Rattle.silence.proofs.expiry.follow.Needs as need
 use Rattle.silence.proofs.expiry.follow.Needs.{else-loop-test, then-loop-test·then-end-line-rate}

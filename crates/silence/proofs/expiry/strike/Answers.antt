@@ -1,7 +1,6 @@
-use mathlib.Core.Path.{_≡_, sym, ap, subst, _∙_}
+use mathlib.Core.Path.{sym, ap, subst, _∙_}
 use Rattle.limiters.specs.Act.{heard}
-use Rattle.silence.specs.Stands.{Serving-within, strike-stand}
-use Rattle.silence.specs.declared.expiry.Stand.{Stand}
+use Rattle.silence.specs.Stands.{Serving-within}
 use Rattle.silence.proofs.Climbing.{struck-within}
 use Rattle.silence.proofs.expiry.strike.Needs as need
 
