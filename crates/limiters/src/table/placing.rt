@@ -3,8 +3,10 @@ ghost use Prim.Native.Nat.{_<_};
 ghost use lib.ListN.{getD, set, replicate};
 ghost use Rattle.limiters.specs.Act.{heard, sent, taken};
 ghost use Rattle.limiters.specs.Place.{placed, slots-after, cursor-after, next-cursor, sent-by};
+ghost use Rattle.limiters.specs.Step.{stepped};
 ghost use Rattle.limiters.specs.Table.{serving};
 ghost use Rattle.limiters.specs.declared.limiter.Limiter.the-variants.{Free};
+use crate::event::Event;
 use crate::limiter::Identity;
 use crate::limiter::Limiter;
 use crate::table::SLOTS;
@@ -90,12 +92,22 @@ impl Table {
         }
     }
 
-    // A slot's limiter, and a free one past the last.
-    pub fn limiter(&self, slot: usize) -> Limiter
-        ensures answer { λ r. ⌜ r ≡ getD (now (self .entry) .slots) slot Free ⌝ }
+    // One slot's event; past the last slot nothing happens.
+    pub fn step(&mut self, settings: &Settings, slot: usize, event: Event)
+        ensures slots { λ _. ⌜ now (self .exit) .slots ≡ set (now (self .entry) .slots) slot (stepped (now (settings .entry) .figures) event (getD (now (self .entry) .slots) slot Free)) ⌝ }
+        ensures cursor { λ _. ⌜ now (self .exit) .cursor ≡ now (self .entry) .cursor ⌝ }
     {
         if slot < SLOTS {
-            self.slots[slot]
+            self.slots[slot].step(settings, event);
+        }
+    }
+
+    // A slot's limiter, and a free one past the last.
+    pub fn limiter(&self, place: usize) -> Limiter
+        ensures answer { λ r. ⌜ r ≡ getD (now (self .entry) .slots) place Free ⌝ }
+    {
+        if place < SLOTS {
+            self.slots[place]
         } else {
             Limiter::Free
         }
