@@ -2,6 +2,8 @@
 //
 // `command`: what a line can say. `misread`: why it says nothing, and where. `columns`: where a field begins.
 // `reading`: what a line says.
+#![tactic(auto)]
+
 pub mod columns;
 pub mod command;
 pub mod misread;

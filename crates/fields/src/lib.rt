@@ -2,6 +2,8 @@
 // `cutting` takes one field off a text, `decimals` reads a decimal number, `hexadecimals` reads bytes
 // that are written as hexadecimal digits, `splitting` takes a line apart into all its fields, and `places` finds
 // one of them.
+#![tactic(auto)]
+
 mod cutting;
 mod decimals;
 mod hexadecimals;

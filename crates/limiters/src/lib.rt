@@ -2,6 +2,8 @@
 //
 // `limiter`: one limiter. `event`: what can come to it. `stepping`: what each does, in place.
 // `acting`: a limiter under a rate rule. `waiting`: many microseconds, by jumps from expiry to expiry.
+#![tactic(auto)]
+
 pub mod acting;
 pub mod event;
 pub mod limiter;

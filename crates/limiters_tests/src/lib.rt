@@ -1,3 +1,5 @@
 // Worked examples of limiters.
+#![tactic(auto)]
+
 #[cfg(test)]
 mod limits;

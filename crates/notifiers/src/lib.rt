@@ -3,6 +3,8 @@
 // `severity`: how far the queue is from where it should be. `shown`: what a notifier is shown, and what it answers.
 // `notifier`: what every notifier is. `bytes`, `frames`: two that sample by what has come. `representative`: a layer
 // over any. `chosen`: one of these, by a letter. `showing`: a whole list of frames.
+#![tactic(auto)]
+
 pub mod bytes;
 pub mod chosen;
 pub mod frames;

@@ -1,3 +1,5 @@
 // Worked examples of severity and of the notifiers.
+#![tactic(auto)]
+
 #[cfg(test)]
 mod sampling;

@@ -3,6 +3,8 @@
 // `rates`: what a rule is asked about. `rate_rule`: what every rule is. `pair`: two rates in order.
 // `standard`: the rule of the published algorithm. `rung_rule`: a rule whose rates are rungs.
 // `chosen`: either rule, by a letter.
+#![tactic(auto)]
+
 pub mod chosen;
 pub mod pair;
 pub mod rate_rule;

@@ -1,3 +1,5 @@
 // Worked examples of the rung rule.
+#![tactic(auto)]
+
 #[cfg(test)]
 mod rungs;

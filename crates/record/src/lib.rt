@@ -1,5 +1,7 @@
 // The feedback record that a switch sends: 14 bytes, read and written by one layout.
 // `layout` has the places and limits, `reading` and `writing` the two calls, `faults` why they refuse.
+#![tactic(auto)]
+
 mod faults;
 mod layout;
 mod reading;

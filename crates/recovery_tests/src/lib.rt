@@ -1,3 +1,5 @@
 // What no contract says: worked examples, compared with what they should print.
+#![tactic(auto)]
+
 #[cfg(test)]
 mod examples;

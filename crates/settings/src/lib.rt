@@ -2,6 +2,8 @@
 //
 // `figures`: the eight numbers as they are given. `settings`: the numbers once accepted.
 // `fault`: which of the eight was refused, and its number.
+#![tactic(auto)]
+
 pub mod accepted;
 pub mod fault;
 pub mod figures;

@@ -2,6 +2,8 @@
 //
 // `frame`, `notice`: what waits. `call`: the five calls, and what they answer. `fault`: why they refuse.
 // The model itself stands in `specs/`.
+#![tactic(auto)]
+
 pub mod call;
 pub mod fault;
 pub mod frame;
