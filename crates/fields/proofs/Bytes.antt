@@ -38,7 +38,7 @@ paired_none f None = refl
 paired_none f (Some x) = refl
 
 -- A value that is not there.
-none_from : {X : Type 0} (o : Option X) → is_some o ≡ false → o ≡ None
+pub none_from : {X : Type 0} (o : Option X) → is_some o ≡ false → o ≡ None
 none_from None h = refl
 none_from (Some x) h = absurd (true≢false h)
 

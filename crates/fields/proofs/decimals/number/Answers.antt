@@ -2,8 +2,8 @@ use Rattle.std.proofs.Common.{◌<◌, rules}
 use Rattle.fields.proofs.Weights.{digit_read, no_digit, all_read, place_more}
 use Rattle.fields.proofs.decimals.number.Goals as goal
 
-pub returns-in-err-decimal-digit : goal.returns-in-err-decimal-digit
-returns-in-err-decimal-digit c = search (rules, no_digit)
+pub returns-in_err-decimal_digit : goal.returns-in_err-decimal_digit
+returns-in_err-decimal_digit c = search (rules, no_digit)
 
 pub loop-c-preserved : goal.loop-c-preserved
 loop-c-preserved c =

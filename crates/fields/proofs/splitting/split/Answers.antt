@@ -17,5 +17,5 @@ field_more before after field left rest whole pushed cut so_far =
 
 pub loop-left-preserved : goal.loop-left-preserved
 loop-left-preserved c =
-    field_more _ _ c.cut-piece.result.field _ _ _ (chosen _ _ _ _ c.push.ensures.items (ap is_ok c.in-ok-push.was))
+    field_more _ _ c.cut-piece.result.field _ _ _ (chosen _ _ _ _ c.push.ensures.items (ap is_ok c.in_ok-push.was))
     (ap (parts_after c.args.separator) c.in-Some.is ∙ c.cut-piece.ensures.answer) c.loop-left.invariant

@@ -10,14 +10,14 @@ use Rattle.notifiers.proofs.showing.append_answers.Goals as goal
 pub loop-frame-preserved : goal.loop-frame-preserved
 loop-frame-preserved g c =
     let n = g.N.Notifier in
-    let pushed = chosen _ _ _ _ c.push.ensures.items (ap is_ok c.in-ok-push.was) in (
+    let pushed = chosen _ _ _ _ c.push.ensures.items (ap is_ok c.in_ok-push.was) in (
       answers_more n.meter n.samples n.next _ _ c.loop-frame.notifier c.args.frames.now c.loop-frame.frame-index _ _ _ _ c.loop-frame-test.true pushed c.show.ensures.answer c.show.ensures.after c.loop-frame.invariant.0,
       after_more n.meter n.samples n.next c.loop-frame.notifier c.args.frames.now c.loop-frame.frame-index _ _ _ c.loop-frame-test.true c.show.ensures.after c.loop-frame.invariant.1,
     )
 
-pub returns-in-err-push : goal.returns-in-err-push
-returns-in-err-push g c =
-    let no-memory = c.from-residual.ensures.0 in
+pub returns-in_err-push : goal.returns-in_err-push
+returns-in_err-push g c =
+    let no-memory = c.from_residual.ensures.0 in
     let n = g.N.Notifier in
     let laws = g.met.N.Notifier in
     record {

@@ -9,5 +9,5 @@ returns c =
     let given = c.args.record.now in
     let six : length given.station ≡ 6 = search rules in
     let fits : given.flow < 2 ^ 32 = search rules in
-    let same = c.joined.ensures.answer ∙ encoded_elements given c.to-be-bytes-count.result c.to-be-bytes-flow.result c.to-be-bytes-count.ensures (simp div-one c.to-be-bytes-flow.ensures) six in
+    let same = c.joined.ensures.answer ∙ encoded_elements given c.to_be_bytes-count.result c.to_be_bytes-flow.result c.to_be_bytes-count.ensures (simp div-one c.to_be_bytes-flow.ensures) six in
     record { answer = same; law = λ small. ap decoded same ∙ decoded_encoded given six fits small }

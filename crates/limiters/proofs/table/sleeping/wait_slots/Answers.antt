@@ -20,7 +20,7 @@ loop-slot-preserved g c =
     let told = c.wait.ensures.answer ∙ ap count here in (
       mapped_more step xs c.loop-slot.slots i Free c.wait.new.self c.loop-slot-test.true c.loop-slot.invariant.0 c.wait.ensures.after,
       omega (arith, more, told, c.loop-slot.invariant.1),
-      omega (arith, c.loop-slot.invariant.2, c.wait.type-inv),
+      omega (arith, c.loop-slot.invariant.2, c.wait.type_inv),
     )
 
 pub returns : goal.returns
