@@ -13,8 +13,8 @@ further c =
     within c.loop.column c.loop.left.now c.in-Some.rest.now field _ c.loop.invariant.1
     (c.cut-piece.ensures.law ∙ ap (λ o. field ++ bytes_after 32 o) c.in-Some.is)
 
-pub overflow-add-column-in-Some : goal.overflow-add-column-in-Some
-overflow-add-column-in-Some c = let le = further c in search rules
+pub overflow_add-column-in-Some : goal.overflow_add-column-in-Some
+overflow_add-column-in-Some c = let le = further c in search rules
 
 pub returns-in-None : goal.returns-in-None
 returns-in-None c =

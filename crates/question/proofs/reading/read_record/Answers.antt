@@ -5,7 +5,7 @@ use Rattle.question.proofs.reading.read_record.Goals as goal
 
 pub returns-in-Ok : goal.returns-in-Ok
 unfolding record_said
-returns-in-Ok c = record { answer = c.judge-record.ensures.answer ∙ ap record_of c.as-slice.ensures.value ∙ sym (ap record_from c.in-Ok.ensures.answer) }
+returns-in-Ok c = record { answer = c.judge_record.ensures.answer ∙ ap record_of c.as_slice.ensures.value ∙ sym (ap record_from c.in-Ok.ensures.answer) }
 
 pub returns-in-Digits : goal.returns-in-Digits
 unfolding record_said

@@ -30,8 +30,8 @@ next-stand-requires g c =
       soon = omega (arith, soon, set.period_in.1);
     }
 
-pub returns-in-err-push : goal.returns-in-err-push
-returns-in-err-push g c = let no-memory = c.from-residual.ensures.0 in record { answer = IfOk-from_err _ _ no-memory; law = IfOk-from_err _ _ no-memory }
+pub returns-in_err-push : goal.returns-in_err-push
+returns-in_err-push g c = let no-memory = c.from_residual.ensures.0 in record { answer = IfOk-from_err _ _ no-memory; law = IfOk-from_err _ _ no-memory }
 
 pub loop-preserved : goal.loop-preserved
 loop-preserved g c =
@@ -46,9 +46,9 @@ loop-preserved g c =
     let to-come = bound - (c.loop.counter + 1) in
     let left : bound - c.loop.counter ≡ suc to-come = omega arith in
     let below : (shown c.loop.stand).rates.current ≡ f.line_rate → ⊥ =
-    λ e. c.if-end-line-rate.false (ap (λ x. x.rates.current) c.loop.invariant.2 ∙ e ∙ sym c.line-rate.ensures.answer) in
+    λ e. c.if-end-line_rate.false (ap (λ x. x.rates.current) c.loop.invariant.2 ∙ e ∙ sym c.line_rate.ensures.answer) in
     let more = ap (λ n. expiries rule f n c.loop.stand) left ∙ expiries_more rule f to-come c.loop.stand below in
-    let pushed = chosen _ _ _ _ c.push.ensures.items (ap is_ok c.in-ok-push.was) in
+    let pushed = chosen _ _ _ _ c.push.ensures.items (ap is_ok c.in_ok-push.was) in
     let rest = expiries rule f to-come c.next_stand.result in
     let soon = step_soon rule f laws set.line_rate_in set.period_in c.loop.stand c.loop.invariant.5 in (
       ap (λ l. l ++ rest) pushed ∙ append_assoc rows (row ∷ []) rest ∙ ap (λ e. rows ++ (e ∷ rest)) row_is
@@ -71,7 +71,7 @@ returns g c =
           let over : bound - c.loop.counter ≡ 0 = omega arith in
           ap (λ n. expiries rule set.figures n c.loop.stand) over ∙ expiries_none rule set.figures c.loop.stand
       | then-loop-test+then-end-line-rate w ↦
-          expiries_end rule set.figures (bound - c.loop.counter) c.loop.stand (sym (ap (λ x. x.rates.current) c.loop.invariant.2) ∙ w.if-end-line-rate.true ∙ w.line-rate.ensures.answer)
+          expiries_end rule set.figures (bound - c.loop.counter) c.loop.stand (sym (ap (λ x. x.rates.current) c.loop.invariant.2) ∙ w.if-end-line_rate.true ∙ w.line_rate.ensures.answer)
     ] in
     let all : vec_items c.loop.rows ≡ expiries rule set.figures bound c.args.start = sym (append-nil _) ∙ ap (λ l. vec_items c.loop.rows ++ l) (sym done) ∙ c.loop.invariant.0 in
     let law = climbs_back rule set.figures (g.met.R.RateRule.lawful c.args.rule.now) set.line_rate_in set.period_in c.args.start (vec_items c.loop.rows) c.requires.within all in

@@ -5,17 +5,17 @@ use Rattle.text.proofs.Measured.{left_nothing}
 use Rattle.text.proofs.Stepwise.{table_stepwise, measured_more, measured_none, no_item}
 use Rattle.text.proofs.measuring.left_after_table.Goals as goal
 
-pub returns-in-err-left : goal.returns-in-err-left
-returns-in-err-left c = record {
-  answer = c.from-residual.ensures
+pub returns-in_err-left : goal.returns-in_err-left
+returns-in_err-left c = record {
+  answer = c.from_residual.ensures
       ∙ (sym (measured_none table_stepwise c.args.rows.now c.loop-row.row-index [] c.loop-row.left
-      c.loop-row-test.true (sym c.in-err-left.ensures.answer)) ∙ c.loop-row.invariant);
+      c.loop-row-test.true (sym c.in_err-left.ensures.answer)) ∙ c.loop-row.invariant);
 }
 
 pub loop-row-preserved : goal.loop-row-preserved
 loop-row-preserved c =
-    sym (measured_more table_stepwise c.args.rows.now c.loop-row.row-index [] c.loop-row.left c.in-ok-left.left
-    c.loop-row-test.true (sym c.in-ok-left.ensures.answer)) ∙ c.loop-row.invariant
+    sym (measured_more table_stepwise c.args.rows.now c.loop-row.row-index [] c.loop-row.left c.in_ok-left.left
+    c.loop-row-test.true (sym c.in_ok-left.ensures.answer)) ∙ c.loop-row.invariant
 
 pub returns : goal.returns
 returns c = record {

@@ -6,8 +6,8 @@ use Rattle.text.proofs.putting.put_following.Goals as goal
 pub returns : goal.returns
 returns c = record {
   answer = search rules;
-  after = c.put-field.ensures.after
-      ∙ then_pasted c.args.out.now c.put-byte-begin.new.out c.args.at c.put-byte-begin.result
+  after = c.put_field.ensures.after
+      ∙ then_pasted c.args.out.now c.put_byte-begin.new.out c.args.at c.put_byte-begin.result
       (space ∷ []) (printed_text c.args.field) (following_text c.args.field) c.requires refl
-      c.put-byte-begin.ensures.answer c.put-byte-begin.ensures.after;
+      c.put_byte-begin.ensures.answer c.put_byte-begin.ensures.after;
 }

@@ -5,18 +5,18 @@ use Rattle.text.proofs.Pasting.{pasted_nothing}
 use Rattle.text.proofs.Stepwise.{table_stepwise, item_room, item_end, item_pasted, no_item}
 use Rattle.text.proofs.putting.put_table.Goals as goal
 
-pub put-line-end-requires : goal.put-line-end-requires
-put-line-end-requires c =
+pub put_line-end-requires : goal.put_line-end-requires
+put_line-end-requires c =
     item_room table_stepwise c.args.rows.now c.loop-row.row-index [] c.loop-row.end (length c.loop-row.out)
     c.loop-row-test.true (omega arith)
 
 pub loop-row-preserved : goal.loop-row-preserved
 loop-row-preserved c = (
-  item_end table_stepwise c.args.rows.now c.loop-row.row-index [] c.loop-row.end c.put-line-end.result
-      c.loop-row-test.true c.put-line-end.ensures.answer
+  item_end table_stepwise c.args.rows.now c.loop-row.row-index [] c.loop-row.end c.put_line-end.result
+      c.loop-row-test.true c.put_line-end.ensures.answer
       ∙ c.loop-row.invariant.0,
-  item_pasted table_stepwise c.args.rows.now c.loop-row.row-index [] c.loop-row.out c.put-line-end.new.out c.loop-row.end c.put-line-end.result
-      c.loop-row-test.true (omega arith) c.put-line-end.ensures.answer c.put-line-end.ensures.after
+  item_pasted table_stepwise c.args.rows.now c.loop-row.row-index [] c.loop-row.out c.put_line-end.new.out c.loop-row.end c.put_line-end.result
+      c.loop-row-test.true (omega arith) c.put_line-end.ensures.answer c.put_line-end.ensures.after
       ∙ c.loop-row.invariant.1,
 )
 

@@ -8,5 +8,5 @@ use Rattle.line.proofs.uplink.Line.leave.Goals as goal
 pub returns : goal.returns
 returns g c =
     let s = state c.args.self.now c.args.frames.now c.args.wire.now in
-    let did = c.let-out.ensures in
+    let did = c.let_out.ensures in
     record { answer = did.answer; after = did.after; refused = did.refused; follows = carried g.R.RateRule g.N.Notifier s leave _ _ _ _ (ap told_leave did.answer) did.after (leave_follows g.R.RateRule g.N.Notifier s) }

@@ -4,7 +4,7 @@ use Rattle.line.specs.declared.listing.ListedRow.{ListedRow}
 use Rattle.line.specs.Reading.{listed}
 use Rattle.line.proofs.Listed.{row_none, row_more, row_all}
 use Rattle.line.proofs.uplink.Line.listing.Goals as goal
-use Rattle.line.proofs.uplink.Line.listing.Goals.{in-InService, in-default}
+use Rattle.line.proofs.uplink.Line.listing.Goals.{in-InService, in_default}
 
 abbrev counted : Listing → ℕ
 counted l = l.count
@@ -27,10 +27,10 @@ loop-slot-preserved g c =
         omega (arith, ap counted w.listing-is, w.add.ensures.count, c.loop-slot.invariant.0),
         row_more slots c.loop-slot.slot inside _ _ _ w.in-InService.row w.in-InService.ensures.answer (ap shown w.listing-is ∙ w.add.ensures.rows) c.loop-slot.invariant.1,
       )
-      | in-default w ↦ (
+      | in_default w ↦ (
         omega (arith, ap counted w.listing-is, c.loop-slot.invariant.0),
         subst (λ rows. rows ++ listed (c.loop-slot.slot + 1) (drop (c.loop-slot.slot + 1) slots) ≡ listed 0 slots) (sym (ap shown w.listing-is))
-            (row_none slots c.loop-slot.slot inside _ _ (sym w.in-default.is ∙ c.limiter.ensures.answer) c.loop-slot.invariant.1),
+            (row_none slots c.loop-slot.slot inside _ _ (sym w.in_default.is ∙ c.limiter.ensures.answer) c.loop-slot.invariant.1),
       )
     ]
 

@@ -30,7 +30,7 @@ pub returns-in-Receive : goal.returns-in-Receive
 returns-in-Receive g c =
     let s = state c.args.self.now c.args.frames.now c.args.wire.now in
     let did = c.receive.ensures in
-    let k = called g.R.RateRule g.N.Notifier s (receive c.in-Receive.bytes.now) _ (told_notice c.receive.result) _ _ (ap said c.in-Receive.is) c.told-notice-in-Receive.ensures.answer (record { answer = ap told_notice did.answer; after = did.after; follows = did.follows }) in
+    let k = called g.R.RateRule g.N.Notifier s (receive c.in-Receive.bytes.now) _ (told_notice c.receive.result) _ _ (ap said c.in-Receive.is) c.told_notice-in-Receive.ensures.answer (record { answer = ap told_notice did.answer; after = did.after; follows = did.follows }) in
     record { answer = k.answer; after = k.after; follows = k.follows }
 
 pub returns-in-Wait : goal.returns-in-Wait

@@ -13,11 +13,11 @@ pub loop-i-preserved : goal.loop-i-preserved
 loop-i-preserved g c =
     let start = state c.args.self.now c.args.frames.now c.args.wire.now in
     let here = state c.loop-i.self c.loop-i.frames c.loop-i.wire in
-    let then' = state c.make-call.new.self c.make-call.new.frames c.make-call.new.wire in
+    let then' = state c.make_call.new.self c.make_call.new.frames c.make_call.new.wire in
     let in-calls : c.loop-i.i < length c.args.calls.now = omega (arith, c.min-count.ensures, c.loop-i-test.true) in
     let in-answers : c.loop-i.i < length c.loop-i.answers = omega (arith, c.min-count.ensures, c.loop-i-test.true, c.loop-i.auto.answers) in (
-      ran_next g.R.RateRule g.N.Notifier start here then' c.args.calls.now c.loop-i.answers c.loop-i.i (Offer (record { flow = 0 }) 0) c.make-call.result in-calls in-answers c.loop-i.invariant.0 c.make-call.ensures.follows,
-      rest_next c.loop-i.answers c.args.answers.now c.loop-i.i c.make-call.result c.loop-i.invariant.1,
+      ran_next g.R.RateRule g.N.Notifier start here then' c.args.calls.now c.loop-i.answers c.loop-i.i (Offer (record { flow = 0 }) 0) c.make_call.result in-calls in-answers c.loop-i.invariant.0 c.make_call.ensures.follows,
+      rest_next c.loop-i.answers c.args.answers.now c.loop-i.i c.make_call.result c.loop-i.invariant.1,
     )
 
 pub returns : goal.returns

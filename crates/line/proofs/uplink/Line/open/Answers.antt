@@ -14,7 +14,7 @@ returns-in-None g c =
     let frames = c.args.frames.now in
     let wire = c.args.wire.now in
     let new = new_state set rule notifier frames wire in
-    let none = sym c.open-fault.ensures.answer ∙ c.in-None.is in
+    let none = sym c.open_fault.ensures.answer ∙ c.in-None.is in
     let same = same_states _ new refl refl refl c.new.ensures.slots c.new.ensures.cursor c.new-in-None.ensures.answer refl c.new-in-None-2.ensures.answer refl refl in
     let holds = opens g.R.RateRule g.N.Notifier set rule notifier frames wire (g.met.R.RateRule.lawful rule) none in
     record {

@@ -13,11 +13,11 @@ pub returns-in-Ok : goal.returns-in-Ok
 returns-in-Ok g c =
     let start = c.in-Ok.ensures.holds in
     let old = (g.N.Notifier.meter c.args.notifier).old in
-    let ran = c.make-calls.ensures.runs start.0 (opened old) start.2 in
+    let ran = c.make_calls.ensures.runs start.0 (opened old) start.2 in
     record {
       answer = opened_by c.args.settings c.args.rule c.args.notifier c.args.frames.now c.args.wire.now _ _ c.in-Ok.ensures.answer;
       refused = tt;
       serves = record { constants = start.0; fixed = start.1; ran = ran; promises = holds_always.promised start.0 old ran.moments ran.last ran.run };
-      rest = c.make-calls.ensures.rest;
+      rest = c.make_calls.ensures.rest;
       law = holds_always;
     }
