@@ -5,7 +5,7 @@ use Rattle.silence.specs.Expiries.{bound, expiries, last, ClimbsBack}
 use Rattle.silence.specs.Stands.{shown, next_stand, ServingWithin}
 use Rattle.silence.proofs.Climbing.{expiries_end, expiries_more, expiries_none, last_push, climbs_back, step_within, step_soon}
 use Rattle.silence.proofs.expiry.follow.Goals as goal
-use Rattle.silence.proofs.expiry.follow.Goals.{else-loop-test, then-loop-test+then-end-line-rate}
+use Rattle.silence.proofs.expiry.follow.Goals.{else-loop-test, then-loop-test+then-end-line_rate}
 
 pub loop-init : goal.loop-init
 loop-init g c =
@@ -31,7 +31,7 @@ next-stand-requires g c =
     }
 
 pub returns-in_err-push : goal.returns-in_err-push
-returns-in_err-push g c = let no-memory = c.from_residual.ensures.0 in record { answer = IfOk-from_err _ _ no-memory; law = IfOk-from_err _ _ no-memory }
+returns-in_err-push g c = let no_memory = c.from_residual.ensures.0 in record { answer = IfOk-from_err _ _ no_memory; law = IfOk-from_err _ _ no_memory }
 
 pub loop-preserved : goal.loop-preserved
 loop-preserved g c =
@@ -41,18 +41,18 @@ loop-preserved g c =
     let f = set.figures in
     let rows = vec_items c.loop.rows in
     let row = c.shown-end-in-loop.result in
-    let is = c.next_stand.ensures.answer in
+    let is = c.next-stand.ensures.answer in
     let row_is = c.shown-end-in-loop.ensures.answer ∙ ap shown is in
-    let to-come = bound - (c.loop.counter + 1) in
-    let left : bound - c.loop.counter ≡ suc to-come = omega arith in
+    let to_come = bound - (c.loop.counter + 1) in
+    let left : bound - c.loop.counter ≡ suc to_come = omega arith in
     let below : (shown c.loop.stand).rates.current ≡ f.line_rate → ⊥ =
     λ e. c.if-end-line_rate.false (ap (λ x. x.rates.current) c.loop.invariant.2 ∙ e ∙ sym c.line_rate.ensures.answer) in
-    let more = ap (λ n. expiries rule f n c.loop.stand) left ∙ expiries_more rule f to-come c.loop.stand below in
+    let more = ap (λ n. expiries rule f n c.loop.stand) left ∙ expiries_more rule f to_come c.loop.stand below in
     let pushed = chosen _ _ _ _ c.push.ensures.items (ap is_ok c.in_ok-push.was) in
-    let rest = expiries rule f to-come c.next_stand.result in
+    let rest = expiries rule f to_come c.next-stand.result in
     let soon = step_soon rule f laws set.line_rate_in set.period_in c.loop.stand c.loop.invariant.5 in (
       ap (λ l. l ++ rest) pushed ∙ append_assoc rows (row ∷ []) rest ∙ ap (λ e. rows ++ (e ∷ rest)) row_is
-          ∙ ap (λ s. rows ++ (shown (next_stand rule f c.loop.stand) ∷ expiries rule f to-come s)) is ∙ ap (λ l. rows ++ l) (sym more) ∙ c.loop.invariant.0,
+          ∙ ap (λ s. rows ++ (shown (next_stand rule f c.loop.stand) ∷ expiries rule f to_come s)) is ∙ ap (λ l. rows ++ l) (sym more) ∙ c.loop.invariant.0,
       sym (ap (last (shown c.args.start)) pushed ∙ last_push _ rows row),
       c.shown-end-in-loop.ensures.answer,
       ap (λ s. s.number) is ∙ ap (λ n. n + 1) c.loop.invariant.3,
@@ -70,7 +70,7 @@ returns g c =
       | else-loop-test w ↦
           let over : bound - c.loop.counter ≡ 0 = omega arith in
           ap (λ n. expiries rule set.figures n c.loop.stand) over ∙ expiries_none rule set.figures c.loop.stand
-      | then-loop-test+then-end-line-rate w ↦
+      | then-loop-test+then-end-line_rate w ↦
           expiries_end rule set.figures (bound - c.loop.counter) c.loop.stand (sym (ap (λ x. x.rates.current) c.loop.invariant.2) ∙ w.if-end-line_rate.true ∙ w.line_rate.ensures.answer)
     ] in
     let all : vec_items c.loop.rows ≡ expiries rule set.figures bound c.args.start = sym (append-nil _) ∙ ap (λ l. vec_items c.loop.rows ++ l) (sym done) ∙ c.loop.invariant.0 in
