@@ -7,7 +7,7 @@ use Rattle.report.proofs.telling.effect_text.Goals as goal
 pub returns-then-value-eq-IGNORED : goal.returns-then-value-eq-IGNORED
 unfolding effect_text
 returns-then-value-eq-IGNORED g c =
-    record { answer = IfOk-weaker c.from-str.result _ _ (λ t is. is ∙ sym (cond-true _ _ _ (eq-eqb _ _ c.if-value-eq-IGNORED.true))) c.from-str.ensures.ok }
+    record { answer = IfOk-weaker c.from_str.result _ _ (λ t is. is ∙ sym (cond-true _ _ _ (eq-eqb _ _ c.if-value-eq-IGNORED.true))) c.from_str.ensures.ok }
 
 pub returns : goal.returns
 unfolding effect_text

@@ -21,7 +21,7 @@ pub returns : goal.returns
 returns g c =
     record {
       answer =
-          c.in-ok-text.ensures.answer
-          ∙ ap (λ line. way_text line c.in-ok-way.way) c.line-rate.ensures.answer
-          ∙ told (g.R.RateRule.meaning c.args.rule.now) c.args.settings.now.figures c.args.value c.in-ok-way.way c.in-ok-way.ensures.answer;
+          c.in_ok-text.ensures.answer
+          ∙ ap (λ line. way_text line c.in_ok-way.way) c.line_rate.ensures.answer
+          ∙ told (g.R.RateRule.meaning c.args.rule.now) c.args.settings.now.figures c.args.value c.in_ok-way.way c.in_ok-way.ensures.answer;
     }

@@ -17,8 +17,8 @@ row_more before line after rows i none within pushed is so_far =
 
 pub loop-row-preserved : goal.loop-row-preserved
 loop-row-preserved c =
-    row_more (string_bytes c.loop-row.text) _ _ c.args.rows.now c.loop-row.row-index _ c.loop-row-test.true c.in-ok-push-str.ensures.bytes
-    (c.as-str.ensures.value ∙ c.in-ok-line.ensures.answer) c.loop-row.invariant
+    row_more (string_bytes c.loop-row.text) _ _ c.args.rows.now c.loop-row.row-index _ c.loop-row-test.true c.in_ok-push_str.ensures.bytes
+    (c.as_str.ensures.value ∙ c.in_ok-line.ensures.answer) c.loop-row.invariant
 
 pub returns : goal.returns
 returns c =

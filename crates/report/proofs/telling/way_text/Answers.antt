@@ -8,7 +8,7 @@ joined a a' h b b' d d' e f g = cc
 
 pub returns : goal.returns
 returns c =
-    let cut = c.in-ok-cut.ensures.answer in
-    let rows = c.in-ok-rows.ensures.answer ∙ ap rows_text c.as-slice.ensures.value in
-    let closing = c.in-ok-closing.ensures.answer in
+    let cut = c.in_ok-cut.ensures.answer in
+    let rows = c.in_ok-rows.ensures.answer ∙ ap rows_text c.as_slice.ensures.value in
+    let closing = c.in_ok-closing.ensures.answer in
     record { answer = IfOk-weaker c.format.result _ _ (λ t e. e ∙ joined _ _ columns _ _ _ _ cut rows closing) c.format.ensures.ok }

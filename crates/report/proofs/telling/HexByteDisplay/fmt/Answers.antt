@@ -19,5 +19,5 @@ pub returns-clause-writes : goal.returns-clause-writes
 returns-clause-writes g c =
     λ plain fine.
     subst (λ bs. HasWritten {W = g.row.W.Denot} g.W.Write.write_str_gives c.args.f.now bs c.write.new.self)
-    (two _ _ _ c.hex-char-high.ensures.answer c.hex-char-low.ensures.answer (omega arith))
+    (two _ _ _ c.hex_char-high.ensures.answer c.hex_char-low.ensures.answer (omega arith))
     (c.write.ensures.writes plain fine)
