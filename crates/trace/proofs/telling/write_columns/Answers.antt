@@ -22,6 +22,6 @@ returns c =
     let end : length listed + 1 - 0 ≡ c.loop-i.i + 1 = omega (arith, c.loop-i-test.false, c.loop-i.auto.i-end) in
     let all : take (length listed + 1 - 0) c.loop-i.rows ≡ columns listed = ap (λ n. take n c.loop-i.rows) end ∙ columns_all listed c.loop-i.rows c.loop-i.i c.loop-i-test.false c.loop-i.invariant.1 in
     record {
-      answer = c.write-table.ensures.answer ∙ ap (λ rows. room_answer (table_text rows) c.args.out.now) all;
-      after = c.write-table.ensures.after ∙ ap (λ rows. written (table_text rows) c.args.out.now) all;
+      answer = c.write_table.ensures.answer ∙ ap (λ rows. room_answer (table_text rows) c.args.out.now) all;
+      after = c.write_table.ensures.after ∙ ap (λ rows. written (table_text rows) c.args.out.now) all;
     }
