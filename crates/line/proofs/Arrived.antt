@@ -1,7 +1,7 @@
 -- A notice arrives at the line as at the tally, off its wire or in a record.
 use Rattle.std.proofs.Common.{◌≡◌, ℕ, min, true, List, [], ◌∷◌, length, Ok, Err, Result, sym, refl, ap, ◌∙◌, subst, arith}
 use Rattle.std.proofs.lemmas.Bool.{cond-true}
-use Rattle.std.specs.List.{AllByRecursion as All}
+use Rattle.std.specs.List.{AllByRecursion}
 use Rattle.record.specs.Decoded.{decoded}
 use Rattle.record.specs.declared.Record.{Record}
 use Rattle.record.specs.declared.faults.ReadFault.{ReadFault}
@@ -37,12 +37,12 @@ module _ {R N : Type 0} (rr : RuleGhosts R) (nn : NotifierGhosts N) (s : State R
         holds_limiters rr nn s K t h _ _ _ _ ring rest (λ i. slots_heeding (h.rule_same i) (h.settings_same i).figures (h.cursor_same i) (h.slots_same i) n)
         (λ i. cursor_heeding (h.rule_same i) (h.settings_same i).figures (h.cursor_same i) (h.slots_same i) n) stands same sound
 
-    delivered_same : (ns : List Notice) → All NoticeKept ns → delivered_from rr s ns ≡ tally.delivered_from K t ns
+    delivered_same : (ns : List Notice) → AllByRecursion NoticeKept ns → delivered_from rr s ns ≡ tally.delivered_from K t ns
     delivered_same [] all = refl
     delivered_same (n ∷ ns) all = ap Ok (ap (outcome rr s) (lawful_same n all.0) ∙ outcome_same n)
 
     delivered_held :
-        (ns : List Notice) → waiting s.wire_ring s.wire ≡ ns → All NoticeKept ns → Sound K (tally.delivered_after K t ns)
+        (ns : List Notice) → waiting s.wire_ring s.wire ≡ ns → AllByRecursion NoticeKept ns → Sound K (tally.delivered_after K t ns)
         → Holds rr nn K (delivered_by rr s ns) (tally.delivered_after K t ns)
     delivered_held [] same all sound = h
     delivered_held (n ∷ ns) same all sound =

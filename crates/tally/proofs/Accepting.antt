@@ -3,7 +3,7 @@ use Rattle.std.proofs.Common.{◌≡◌, ℕ, ◌+◌, ◌<◌, ◌≤◌, Bool,
 use Rattle.std.proofs.ByRecursion.{All-push}
 use Rattle.std.proofs.lemmas.List.{length_push}
 use Rattle.std.proofs.lemmas.Bool.{cond_both, and_parts, leb-true, ltb-true}
-use Rattle.std.specs.List.{AllByRecursion as All}
+use Rattle.std.specs.List.{AllByRecursion}
 use Rattle.notifiers.specs.declared.shown.Showing.{Showing}
 use Rattle.notifiers.specs.declared.shown.Showing.TheVariants as showing
 use Rattle.limiters.specs.Pass.{passes, limiter_of}
@@ -30,11 +30,11 @@ not_refused false b c e = let z : ◌≡◌ {A = ℕ} 0 1 = cc in absurd (omega 
 notice_kept : (who : Identity) (v : ℕ) → (1 ≤ v) × (v ≤ 63) → NoticeKept (noticing who v)
 notice_kept who v fair = record { some_value = fair.0; value_low = fair.1 }
 
-wire_kept : (room : Bool) (who : Identity) (s : Showing) (ns : List Notice) → Fair s → All NoticeKept ns → All NoticeKept (wire_posted room who s ns)
+wire_kept : (room : Bool) (who : Identity) (s : Showing) (ns : List Notice) → Fair s → AllByRecursion NoticeKept ns → AllByRecursion NoticeKept (wire_posted room who s ns)
 wire_kept room who showing.Unsampled ns fair all = all
 wire_kept room who showing.Quiet ns fair all = all
 wire_kept room who (showing.Notice v) ns fair all =
-    cond_both room (ns ++ (noticing who v ∷ [])) ns (All NoticeKept) (λ _. All-push NoticeKept ns (noticing who v) all (notice_kept who v fair)) (λ _. all)
+    cond_both room (ns ++ (noticing who v ∷ [])) ns (AllByRecursion NoticeKept) (λ _. All-push NoticeKept ns (noticing who v) all (notice_kept who v fair)) (λ _. all)
 
 wire_fits : (places : ℕ) (who : Identity) (s : Showing) (ns : List Notice) → length ns ≤ places → length (wire_posted (ltb (length ns) places) who s ns) ≤ places
 wire_fits places who showing.Unsampled ns fit = fit

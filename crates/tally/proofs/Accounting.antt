@@ -2,7 +2,7 @@
 use Rattle.std.proofs.Common.{◌≡◌, ℕ, ◌+◌, Bool, true, false, eqb, leb, List, [], ◌∷◌, ◌++◌, length, take, Some, None, Ok, Err, sum_by, Option, Result, sym, refl, ap, ◌∙◌, append_assoc, append-nil, arith, length-append}
 use Rattle.std.proofs.lemmas.List.Sums.{sum_by-cons}
 use Rattle.std.proofs.lemmas.Bool.{cond_both, eqb-true}
-use Rattle.std.specs.List.{flat_map, AllByRecursion as All}
+use Rattle.std.specs.List.{flat_map, AllByRecursion}
 use Rattle.record.specs.Decoded.{decoded}
 use Rattle.record.specs.declared.Record.{Record}
 use Rattle.record.specs.declared.faults.ReadFault.{ReadFault}
@@ -62,7 +62,7 @@ settled K t n kept =
     (λ e. absurd (omega (arith, eqb-true n.value 0 e, kept.some_value)))
     (λ _. settles n.to after (placed n.to t.cursor t.slots))
 
-delivered : (K : Constants) (t : Tally) (ns : List Notice) → t.notices ≡ ns → All NoticeKept ns
+delivered : (K : Constants) (t : Tally) (ns : List Notice) → t.notices ≡ ns → AllByRecursion NoticeKept ns
     → Accounted (record { before = t; asked = deliver; answer = told_notice (delivered_from K t ns); after = delivered_after K t ns })
 delivered K t [] is kept = record { counts = omega arith; order = append-nil t.notices }
 delivered K t (n ∷ ns) is kept = record {
@@ -92,7 +92,7 @@ accounted K t (receive bytes) sampled sound = received K t bytes (decoded bytes)
 accounted K t (wait n) sampled sound = waited t _ n (wait_answer K t n) (cond_both (leb n longest_wait) _ t (λ u. u.notices ≡ t.notices) (λ _. refl) (λ _. refl))
 
 -- over a run
-pub run_counts : (K : Constants) (ms : List Moment) (t u : Tally) → All Accounted ms → Run K t ms u
+pub run_counts : (K : Constants) (ms : List Moment) (t u : Tally) → AllByRecursion Accounted ms → Run K t ms u
     → length t.notices + sum_by made_at ms ≡ sum_by applied_at ms + sum_by unplaced_at ms + sum_by overrun_at ms + length u.notices
 run_counts K [] t u each run = let e = ap (λ (x : Tally). length x.notices) run in omega arith
 run_counts K (m ∷ ms) t u each run =
@@ -101,7 +101,7 @@ run_counts K (m ∷ ms) t u each run =
     let rest = run_counts K ms m.after u each.1 run.2 in
     omega (arith, sum_by-cons made_at m ms, sum_by-cons applied_at m ms, sum_by-cons unplaced_at m ms, sum_by-cons overrun_at m ms)
 
-pub run_order : (K : Constants) (ms : List Moment) (t u : Tally) → All Accounted ms → Run K t ms u → t.notices ++ flat_map joins_at ms ≡ flat_map takes_at ms ++ u.notices
+pub run_order : (K : Constants) (ms : List Moment) (t u : Tally) → AllByRecursion Accounted ms → Run K t ms u → t.notices ++ flat_map joins_at ms ≡ flat_map takes_at ms ++ u.notices
 run_order K [] t u each run = append-nil t.notices ∙ ap (λ (x : Tally). x.notices) run
 run_order K (m ∷ ms) t u each run =
     ap (λ (x : Tally). x.notices ++ (joins_at m ++ flat_map joins_at ms)) (sym run.0)

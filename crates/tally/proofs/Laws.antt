@@ -1,6 +1,6 @@
 -- The three promises hold over every run.
 use Rattle.std.proofs.Common.{◌≡◌, ℕ, ◌+◌, ◌<◌, ◌≤◌, Bool, true, List, ◌++◌, length, get_or, Some, sum_by, subst, arith}
-use Rattle.std.specs.List.{AllByRecursion as All}
+use Rattle.std.specs.List.{AllByRecursion}
 use Rattle.limiters.specs.Single.{Single}
 use Rattle.limiters.specs.Step.{full_credit}
 use Rattle.limiters.specs.Table.{fits, serving}
@@ -24,7 +24,7 @@ use Rattle.tally.proofs.Telling.{told_step}
 use Rattle.tally.proofs.Walking.{definite, run_split, run_sound, run_all}
 
 -- a stretch of a run, whatever comes before and after it
-paced : (K : Constants) (t u : Tally) (who : Identity) (i : ℕ) (before stretch after : List Moment) → Sound K t → i < 64 → Run K t (before ++ (stretch ++ after)) u → All (Serves who i) stretch
+paced : (K : Constants) (t u : Tally) (who : Identity) (i : ℕ) (before stretch after : List Moment) → Sound K t → i < 64 → Run K t (before ++ (stretch ++ after)) u → AllByRecursion (Serves who i) stretch
     → sum_by (charged_at who) stretch ≤ full_credit + sum_by (earned_at K i) stretch
 paced K t u who i before stretch after sound inside run serves =
     let first = run_split K before (stretch ++ after) t u run in

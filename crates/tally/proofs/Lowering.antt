@@ -1,7 +1,7 @@
 -- Rates are in bounds, and an applied notice lowers its flow's rate.
 use Rattle.std.proofs.Common.{◌≡◌, ℕ, ◌<◌, ◌≤◌, Bool, true, false, cond, eqb, List, [], ◌∷◌, get_or, Some, Ok, Err, Option, Result, refl, arith}
 use Rattle.std.proofs.lemmas.Bool.{eqb-false}
-use Rattle.std.specs.List.{AllByRecursion as All}
+use Rattle.std.specs.List.{AllByRecursion}
 use Rattle.record.specs.Decoded.{decoded}
 use Rattle.record.specs.declared.Record.{Record}
 use Rattle.record.specs.declared.faults.ReadFault.{ReadFault}
@@ -64,7 +64,7 @@ module _ (K : Constants) where
   Shows t now' o after = (n : Notice) × (o ≡ Some n) × (flow_rate K n.to after ≡ now') × Falls K.rule.floor (flow_rate K n.to t) now'
 
   module _ (t : Tally) (s : Sound K t) (slot now' : ℕ) where
-    delivered_lowers : (ns : List Notice) → All NoticeKept ns → told_notice (delivered_from K t ns) ≡ Heard (Applied slot now') → Shows t now' (oldest ns) (delivered_after K t ns)
+    delivered_lowers : (ns : List Notice) → AllByRecursion NoticeKept ns → told_notice (delivered_from K t ns) ≡ Heard (Applied slot now') → Shows t now' (oldest ns) (delivered_after K t ns)
     delivered_lowers [] all is = let z : ◌≡◌ {A = ℕ} 0 1 = cc in absurd (omega arith)
     delivered_lowers (n ∷ ns) all is =
         let h = heeding_lowers t s n all.0.value_low slot now' ns (cc) in

@@ -3,7 +3,7 @@ use Rattle.std.proofs.Common.{◌≡◌, ℕ, ◌+◌, ◌<◌, ◌≤◌, Bool,
 use Rattle.std.proofs.lemmas.List.{get_or-map}
 use Rattle.std.proofs.lemmas.List.Sums.{sum_by-cons}
 use Rattle.std.proofs.lemmas.Bool.{cond_both, eqb-true}
-use Rattle.std.specs.List.{AllByRecursion as All}
+use Rattle.std.specs.List.{AllByRecursion}
 use Rattle.record.specs.Decoded.{decoded}
 use Rattle.record.specs.declared.Record.{Record}
 use Rattle.record.specs.declared.faults.ReadFault.{ReadFault}
@@ -113,7 +113,7 @@ module _ (K : Constants) (t : Tally) (who : Identity) (i : ℕ) (sound : Sound K
   paid (wait n) sampled = waits n _ _ (leb n longest_wait)
 
 -- over a run
-pub run_paid : (K : Constants) (who : Identity) (i : ℕ) (ms : List Moment) (t u : Tally) → All (Paid K who i) ms → All (Serves who i) ms → Run K t ms u
+pub run_paid : (K : Constants) (who : Identity) (i : ℕ) (ms : List Moment) (t u : Tally) → AllByRecursion (Paid K who i) ms → AllByRecursion (Serves who i) ms → Run K t ms u
     → credit_at i u + sum_by (charged_at who) ms ≤ credit_at i t + sum_by (earned_at K i) ms
 run_paid K who i [] t u paid serves run = let same = ap (credit_at i) run in omega arith
 run_paid K who i (m ∷ ms) t u paid serves run =

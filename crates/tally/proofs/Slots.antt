@@ -3,7 +3,7 @@ use Rattle.std.proofs.Common.{◌≡◌, ℕ, zero, suc, ◌+◌, ◌<◌, ◌�
 use Rattle.std.proofs.ByRecursion.{All-set, All-get_or, All-map, All-weaker}
 use Rattle.std.proofs.lemmas.List.{length-set, get_or_past}
 use Rattle.std.proofs.lemmas.Bool.{cond_both, cases_lt, ltb-true}
-use Rattle.std.specs.List.{AllByRecursion as All}
+use Rattle.std.specs.List.{AllByRecursion}
 use Rattle.settings.specs.declared.figures.Figures.{Figures}
 use Rattle.rates.specs.Rule.{Rule}
 use Rattle.limiters.specs.Act.{heard, sent, taken, byte_raised}
@@ -17,27 +17,27 @@ use Rattle.limiters.specs.declared.limiter.Limiter.TheVariants.{Free, InService}
 
 -- what holds of a free limiter and of each in the table holds of what stands anywhere
 module _ (P : Limiter → Type 0) (free : P Free) where
-  pub at_any : (ls : List Limiter) (i : ℕ) → All P ls → P (get_or ls i Free)
+  pub at_any : (ls : List Limiter) (i : ℕ) → AllByRecursion P ls → P (get_or ls i Free)
   at_any ls i all = ⊎_elim (λ inside. All-get_or P ls i Free inside all) (λ past. subst P (sym (get_or_past ls i Free past)) free) (cases_lt i (length ls))
 
-  pub at_found : (ls : List Limiter) (o : Option ℕ) → All P ls → P (at_slot ls o)
+  pub at_found : (ls : List Limiter) (o : Option ℕ) → AllByRecursion P ls → P (at_slot ls o)
   at_found ls None all = free
   at_found ls (Some i) all = at_any ls i all
 
   module _ (rule : Rule) (f : Figures) where
-    pub all_sent : (n : ℕ) → ((l : Limiter) → P l → P (sent rule f n l)) → (ls : List Limiter) (o : Option ℕ) → All P ls → All P (sent_by rule f n ls o)
+    pub all_sent : (n : ℕ) → ((l : Limiter) → P l → P (sent rule f n l)) → (ls : List Limiter) (o : Option ℕ) → AllByRecursion P ls → AllByRecursion P (sent_by rule f n ls o)
     all_sent n keeps ls None all = all
     all_sent n keeps ls (Some i) all = All-set P ls i (sent rule f n (get_or ls i Free)) (keeps (get_or ls i Free) (at_any ls i all)) all
 
-    pub all_waited : (n : ℕ) → ((l : Limiter) → P l → P (micros rule f n l)) → (ls : List Limiter) → All P ls → All P (map (micros rule f n) ls)
+    pub all_waited : (n : ℕ) → ((l : Limiter) → P l → P (micros rule f n l)) → (ls : List Limiter) → AllByRecursion P ls → AllByRecursion P (map (micros rule f n) ls)
     all_waited n keeps ls all = All-map P (micros rule f n) ls (All-weaker P (λ l. P (micros rule f n l)) keeps ls all)
 
     pub all_heard : (who : Identity) (v cursor : ℕ) → ((l : Limiter) → P l → P (taken f who l)) → ((l : Limiter) → P l → P (heard rule f v l))
-        → (ls : List Limiter) (o p : Option ℕ) → All P ls → All P (slots_by rule f who v cursor ls o p)
+        → (ls : List Limiter) (o p : Option ℕ) → AllByRecursion P ls → AllByRecursion P (slots_by rule f who v cursor ls o p)
     all_heard who v cursor takes keeps ls (Some i) p all = All-set P ls i (heard rule f v (get_or ls i Free)) (keeps (get_or ls i Free) (at_any ls i all)) all
     all_heard who v cursor takes keeps ls None (Some i) all =
         let ms = set ls i (taken f who (get_or ls i Free)) in
-        let then' : All P ms = All-set P ls i (taken f who (get_or ls i Free)) (takes (get_or ls i Free) (at_any ls i all)) all in
+        let then' : AllByRecursion P ms = All-set P ls i (taken f who (get_or ls i Free)) (takes (get_or ls i Free) (at_any ls i all)) all in
         All-set P ms i (heard rule f v (get_or ms i Free)) (keeps (get_or ms i Free) (at_any ms i then')) then'
     all_heard who v cursor takes keeps ls None None all = all
 

@@ -2,7 +2,7 @@
 use Rattle.std.proofs.Common.{◌≡◌, ℕ, ◌<◌, ◌≤◌, Bool, true, eqb, leb, List, [], ◌∷◌, length, get_or, replicate, Ok, Err, Result, sym, refl, subst, arith}
 use Rattle.std.proofs.lemmas.List.{length-replicate, get_or-replicate}
 use Rattle.std.proofs.lemmas.Bool.{cond_both, true≢false}
-use Rattle.std.specs.List.{AllByRecursion as All}
+use Rattle.std.specs.List.{AllByRecursion}
 use Rattle.record.specs.Decoded.{decoded}
 use Rattle.record.specs.declared.Record.{Record}
 use Rattle.record.specs.declared.faults.ReadFault.{ReadFault}
@@ -47,7 +47,7 @@ sound_opened K old = record {
 }
 
 -- lists without their first
-first_off : {X : Type 0} (P : X → Type 0) (xs : List X) → All P xs → All P (without_first xs)
+first_off : {X : Type 0} (P : X → Type 0) (xs : List X) → AllByRecursion P xs → AllByRecursion P (without_first xs)
 first_off P [] all = tt
 first_off P (x ∷ xs) all = all.1
 
@@ -62,7 +62,7 @@ module _ (K : Constants) (t : Tally) (s : Sound K t) where
       s.notices_fit s.notices_kept s.since_kept
 
   -- a notice arrives, and these are left
-  pub sound_heeding : (n : Notice) (rest : List Notice) → n.value ≤ 63 → length rest ≤ K.wire_places → All NoticeKept rest → Sound K (heeding K t n rest)
+  pub sound_heeding : (n : Notice) (rest : List Notice) → n.value ≤ 63 → length rest ≤ K.wire_places → AllByRecursion NoticeKept rest → Sound K (heeding K t n rest)
   sound_heeding n rest few fit all =
       let rule = K.rule in
       let f = K.settings.figures in
@@ -74,7 +74,7 @@ module _ (K : Constants) (t : Tally) (s : Sound K t) where
       (λ _. cursor_heard rule f n.to n.value t.cursor ls (serving n.to ls) (first_free t.cursor ls) s.inside))
       s.frames_fit s.frames_kept fit all s.since_kept
 
-  sound_delivered : (ns : List Notice) → length ns ≤ K.wire_places → All NoticeKept ns → Sound K (delivered_after K t ns)
+  sound_delivered : (ns : List Notice) → length ns ≤ K.wire_places → AllByRecursion NoticeKept ns → Sound K (delivered_after K t ns)
   sound_delivered [] fit all = s
   sound_delivered (n ∷ ns) fit all = sound_heeding n ns all.0.value_low (omega arith) all.1
 

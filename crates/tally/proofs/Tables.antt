@@ -2,7 +2,7 @@
 use Rattle.std.proofs.Common.{◌≡◌, ℕ, ◌<◌, ◌≤◌, List, map, length, ◌∙◌, arith}
 use Rattle.std.proofs.ByRecursion.{All-get_or, All-from_get_or}
 use Rattle.std.proofs.lemmas.List.{length-map}
-use Rattle.std.specs.List.{AllByRecursion as All}
+use Rattle.std.specs.List.{AllByRecursion}
 use Rattle.settings.specs.declared.figures.Figures.{Figures}
 use Rattle.limiters.proofs.Keeping.{hearing, sending, waiting}
 use Rattle.limiters.proofs.Singles.{stays_single}
@@ -21,8 +21,8 @@ use Rattle.tally.specs.Tally.{Constants, Tally}
 -- the part of a sound tally that its limiters are
 pub record Kept (K : Constants) (ls : List Limiter) : Type 0 where
   pub long : length ls ≡ 64
-  pub within : All (Within K.rule K.settings.figures) ls
-  pub held_low : All Low ls
+  pub within : AllByRecursion (Within K.rule K.settings.figures) ls
+  pub held_low : AllByRecursion Low ls
   pub single : Single ls
 
 module _ (K : Constants) where
@@ -38,7 +38,7 @@ module _ (K : Constants) where
   }
 
   -- whatever holds the limiters, and the rest as it should be
-  pub sound_from : (t : Tally) → Kept K t.slots → t.cursor < 64 → length t.frames ≤ K.frame_places → All FrameKept t.frames → length t.notices ≤ K.wire_places → All NoticeKept t.notices → t.since ≤ K.gap → Sound K t
+  pub sound_from : (t : Tally) → Kept K t.slots → t.cursor < 64 → length t.frames ≤ K.frame_places → AllByRecursion FrameKept t.frames → length t.notices ≤ K.wire_places → AllByRecursion NoticeKept t.notices → t.since ≤ K.gap → Sound K t
   sound_from t k inside frames_fit frames_kept notices_fit notices_kept since_kept = record {
     long = k.long;
     inside = inside;

@@ -1,7 +1,7 @@
 -- Runs: one more moment, a run in two parts, and what each step keeps over all of them.
 use Rattle.std.proofs.Common.{◌≡◌, Bool, true, List, [], ◌∷◌, ◌++◌, sym, refl, ◌∙◌, subst}
 use Rattle.std.proofs.lemmas.Bool.{true≢false}
-use Rattle.std.specs.List.{AllByRecursion as All}
+use Rattle.std.specs.List.{AllByRecursion}
 use Rattle.tally.specs.Runs.{Moment, Open, Step, Run, Definite}
 use Rattle.tally.specs.Sound.{Sound}
 use Rattle.tally.specs.Steps.{Asked, offer, leave, deliver, receive, wait, answer_to, tally_after}
@@ -48,7 +48,7 @@ run_sound K [] t u sound run = subst (Sound K) run sound
 run_sound K (m ∷ ms) t u sound run = run_sound K ms m.after u (moment_sound K m run.1 (subst (Sound K) (sym run.0) sound)) run.2
 
 -- what each step has from what is sound, each moment of a run has
-pub run_all : (K : Constants) (P : Moment → Type 0) → ((t : Tally) (a : Asked) (sampled : Bool) → Sound K t → P (moment K t a sampled)) → (ms : List Moment) (t u : Tally) → Sound K t → Run K t ms u → All P ms
+pub run_all : (K : Constants) (P : Moment → Type 0) → ((t : Tally) (a : Asked) (sampled : Bool) → Sound K t → P (moment K t a sampled)) → (ms : List Moment) (t u : Tally) → Sound K t → Run K t ms u → AllByRecursion P ms
 run_all K P each [] t u sound run = tt
 run_all K P each (m ∷ ms) t u sound run =
     let start = subst (Sound K) (sym run.0) sound in

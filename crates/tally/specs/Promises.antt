@@ -1,6 +1,6 @@
 -- The three promises, over every run of every line.
 use Rattle.std.specs.Prelude.{◌≡◌, ℕ, ◌+◌, ◌<◌, ◌≤◌, true, false, List, [], ◌∷◌, ◌++◌, length, Some, None, Ok, Err, sum_by, Option, Result, slice_index_or}
-use Rattle.std.specs.List.{flat_map, AllByRecursion as All}
+use Rattle.std.specs.List.{flat_map, AllByRecursion}
 use Rattle.record.specs.Decoded.{decoded}
 use Rattle.record.specs.declared.Record.{Record}
 use Rattle.record.specs.declared.faults.ReadFault.{ReadFault}
@@ -101,17 +101,17 @@ pub record Promises (K : Constants) (ms : List Moment) (u : Tally) : Type 0 wher
   -- Rates: every limiter in service is in bounds, no flow has two, and an applied notice lowers.
   pub rates : (i : ℕ) → i < 64 → InRates K (slice_index_or u.slots i Free)
   pub single : Single u.slots
-  pub lowers : All (Lowers K) ms
+  pub lowers : AllByRecursion (Lowers K) ms
   -- Pace: over calls in a row with one slot serving the flow before and after each, the flow's frames are charged at most full credit and what the slot earned.
   pub pace :
-      (who : Identity) (i : ℕ) (before stretch after : List Moment) → i < 64 → ms ≡ before ++ (stretch ++ after) → All (Serves who i) stretch
+      (who : Identity) (i : ℕ) (before stretch after : List Moment) → i < 64 → ms ≡ before ++ (stretch ++ after) → AllByRecursion (Serves who i) stretch
       → sum_by (charged_at who) stretch ≤ full_credit + sum_by (earned_at K i) stretch
   -- Notices: made = applied + unplaced + overrun + waiting; they are taken off in the order made; the gap; a sample above the mark tells; and one is unplaced only in a crowd.
   pub account : sum_by made_at ms ≡ sum_by applied_at ms + sum_by unplaced_at ms + sum_by overrun_at ms + length u.notices
   pub order : flat_map joins_at ms ≡ flat_map takes_at ms ++ u.notices
   pub gap_kept : bytes_since 0 ms ≤ K.gap
-  pub told : All (Told K) ms
-  pub crowded : All Crowded ms
+  pub told : AllByRecursion (Told K) ms
+  pub crowded : AllByRecursion Crowded ms
 
 -- From any opening, whatever the notifier's old, after any list of calls. And the relation is neither empty nor too weak.
 pub record HoldsAlways : Type 0 where

@@ -1,6 +1,6 @@
 -- What every tally keeps that a run can reach.
 use Rattle.std.specs.Prelude.{◌≡◌, ℕ, ◌<◌, ◌≤◌, length, slice_index_or}
-use Rattle.std.specs.List.{AllByRecursion as All}
+use Rattle.std.specs.List.{AllByRecursion}
 use Rattle.limiters.specs.Bounds.{Within}
 use Rattle.limiters.specs.Pass.{held_of}
 use Rattle.limiters.specs.Single.{Single}
@@ -26,7 +26,7 @@ pub record Sound (K : Constants) (t : Tally) : Type 0 where
   pub held_low : (i : ℕ) → i < 64 → held_of (slice_index_or t.slots i Free) ≤ 63
   pub single : Single t.slots
   pub frames_fit : length t.frames ≤ K.frame_places
-  pub frames_kept : All FrameKept t.frames
+  pub frames_kept : AllByRecursion FrameKept t.frames
   pub notices_fit : length t.notices ≤ K.wire_places
-  pub notices_kept : All NoticeKept t.notices
+  pub notices_kept : AllByRecursion NoticeKept t.notices
   pub since_kept : t.since ≤ K.gap
