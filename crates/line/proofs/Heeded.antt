@@ -1,5 +1,5 @@
 -- What becomes of a notice whose value is not 0, by where it was placed.
-use Rattle.std.proofs.Common.{◌≡◌, ℕ, List, get_or, Option, sym, ap, ◌∙◌}
+use Rattle.std.proofs.Common.{◌≡◌, ℕ, List, Option, sym, ◌∙◌}
 use Rattle.std.proofs.lemmas.Bool.{cond-false, ne_eqb}
 use Rattle.settings.specs.declared.figures.Figures.{Figures}
 use Rattle.rates.specs.Rule.{Rule}

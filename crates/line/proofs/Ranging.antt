@@ -1,5 +1,5 @@
 -- A list of calls, one call more.
-use Rattle.std.proofs.Common.{◌≡◌, ℕ, ◌+◌, ◌<◌, Bool, List, [], ◌∷◌, ◌++◌, map, length, get_or, take, drop, set, sym, refl, ap, ◌∙◌, subst, arith}
+use Rattle.std.proofs.Common.{◌≡◌, ℕ, ◌+◌, ◌<◌, List, [], ◌∷◌, ◌++◌, map, length, get_or, take, drop, set, sym, refl, ap, ◌∙◌, subst, arith}
 use Rattle.std.proofs.lemmas.List.{map_push, map_more, take_more_set, drop-set-lt, drop-drop}
 use Rattle.rates.specs.declared.rate_rule.RateRule.{Ghosts as RuleGhosts}
 use Rattle.notifiers.specs.declared.notifier.Notifier.{Ghosts as NotifierGhosts}
@@ -10,7 +10,7 @@ use Rattle.tally.specs.Saying.{said}
 use Rattle.tally.specs.declared.call.Answer.{Answer}
 use Rattle.tally.specs.declared.call.Call.{Call}
 use Rattle.tally.proofs.Walking.{run_push}
-use Rattle.line.specs.Holds.{Holds, Follows}
+use Rattle.line.specs.Holds.{Follows}
 use Rattle.line.specs.Serving.{Ran, Runs, asked_in, answer_in}
 use Rattle.line.specs.State.{State}
 

@@ -1,5 +1,5 @@
 -- States that agree in every part are the same.
-use Rattle.std.proofs.Common.{◌≡◌, List}
+use Rattle.std.proofs.Common.{◌≡◌}
 use Rattle.line.specs.State.{State}
 
 pub same_states :

@@ -1,5 +1,5 @@
 -- A wait, from any state; and whichever call it is.
-use Rattle.std.specs.Prelude.{ℕ, cond, List, map, Ok, Err, sum_by, Result, nat_le}
+use Rattle.std.specs.Prelude.{ℕ, cond, map, Ok, Err, sum_by, Result, nat_le}
 use Rattle.rates.specs.declared.rate_rule.RateRule.{Ghosts as RuleGhosts}
 use Rattle.notifiers.specs.declared.notifier.Notifier.{Ghosts as NotifierGhosts}
 use Rattle.limiters.specs.Wait.{micros, expiries}

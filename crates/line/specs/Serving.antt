@@ -1,5 +1,5 @@
 -- A whole list of calls.
-use Rattle.std.specs.Prelude.{◌≡◌, ℕ, min, List, ◌++◌, map, length, take, drop}
+use Rattle.std.specs.Prelude.{◌≡◌, ℕ, min, List, map, length}
 use Rattle.settings.specs.declared.accepted.Settings.{Settings}
 use Rattle.rates.specs.declared.rate_rule.RateRule.{Ghosts as RuleGhosts}
 use Rattle.notifiers.specs.declared.notifier.Notifier.{Ghosts as NotifierGhosts}

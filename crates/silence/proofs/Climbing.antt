@@ -1,12 +1,11 @@
 -- A silent flow climbs to the line rate.
-use Rattle.std.proofs.Common.{◌≡◌, ℕ, zero, suc, ◌+◌, ◌-◌, ◌<◌, ◌≤◌, max, eqb, ◌⊎◌, List, [], ◌∷◌, ◌++◌, length, sym, refl, ap, ◌∙◌, subst, inl, inr, ⊎_elim, arith}
+use Rattle.std.proofs.Common.{◌≡◌, ℕ, zero, suc, ◌<◌, ◌≤◌, max, eqb, ◌⊎◌, List, [], ◌∷◌, ◌++◌, length, sym, refl, ap, ◌∙◌, subst, inl, inr, ⊎_elim, arith}
 use Rattle.std.proofs.lemmas.Bool.{cond-true, cond-false, cond_both, eq-eqb, ne_eqb, cases_eq}
 use Rattle.settings.specs.Ranges.{In}
 use Rattle.settings.specs.declared.figures.Figures.{Figures}
 use Rattle.settings.specs.declared.fault.SettingsFault.TheVariants.{LineRate, Period}
 use Rattle.rates.specs.Rule.{Rule, Lawful}
 use Rattle.rates.specs.Conditions.{raisable_parts}
-use Rattle.limiters.specs.Act.{taken}
 use Rattle.limiters.specs.Bounds.{InBounds, Within}
 use Rattle.limiters.specs.Step.{earned, expired, fresh, noticed}
 use Rattle.limiters.specs.Wait.{micros, timer_raised, rates_of}

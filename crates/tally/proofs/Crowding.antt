@@ -1,5 +1,5 @@
 -- A notice is unplaced only where every limiter is in service.
-use Rattle.std.proofs.Common.{◌≡◌, ℕ, ◌<◌, Bool, true, false, cond, eqb, List, [], ◌∷◌, length, get_or, Some, None, Ok, Err, Option, Result, refl, ap, ◌∙◌, arith}
+use Rattle.std.proofs.Common.{◌≡◌, ℕ, ◌<◌, Bool, true, false, cond, eqb, List, [], ◌∷◌, length, get_or, Some, None, Ok, Err, Option, Result, refl, arith}
 use Rattle.record.specs.Decoded.{decoded}
 use Rattle.record.specs.declared.Record.{Record}
 use Rattle.record.specs.declared.faults.ReadFault.{ReadFault}
@@ -10,7 +10,7 @@ use Rattle.limiters.specs.declared.limiter.Limiter.{Limiter}
 use Rattle.limiters.specs.declared.limiter.Limiter.TheVariants.{Free}
 use Rattle.limiters.specs.declared.table.searching.Sought.TheVariants as sought
 use Rattle.tally.specs.declared.call.Answer.TheVariants.{Heard}
-use Rattle.tally.specs.declared.call.Outcome.TheVariants.{Applied, Unplaced, Ignored}
+use Rattle.tally.specs.declared.call.Outcome.TheVariants.{Unplaced, Ignored}
 use Rattle.tally.specs.declared.notice.Notice.{Notice}
 use Rattle.tally.specs.Heeding.{outcome_at}
 use Rattle.tally.specs.Offering.{offer_answer}

@@ -1,18 +1,12 @@
 -- The three promises hold over every run.
-use Rattle.std.proofs.Common.{◌≡◌, ℕ, ◌+◌, ◌<◌, ◌≤◌, Bool, true, List, ◌++◌, length, get_or, Some, sum_by, subst, arith}
+use Rattle.std.proofs.Common.{ℕ, ◌+◌, ◌<◌, ◌≤◌, List, ◌++◌, sum_by, subst, arith}
 use Rattle.std.specs.List.{AllByRecursion}
-use Rattle.limiters.specs.Single.{Single}
 use Rattle.limiters.specs.Step.{full_credit}
-use Rattle.limiters.specs.Table.{fits, serving}
 use Rattle.limiters.specs.declared.limiter.Identity.{Identity}
-use Rattle.limiters.specs.declared.limiter.Limiter.{Limiter}
-use Rattle.limiters.specs.declared.limiter.Limiter.TheVariants.{Free}
-use Rattle.limiters.specs.declared.table.searching.Sought.TheVariants.{Serving}
 use Rattle.tally.specs.Counts.{charged_at, earned_at}
-use Rattle.tally.specs.Promises.{InRates, Lowers, Serves, Told, Crowded, Promises, HoldsAlways}
-use Rattle.tally.specs.Runs.{Moment, Open, Run}
+use Rattle.tally.specs.Promises.{Lowers, Serves, Told, Crowded, Promises, HoldsAlways}
+use Rattle.tally.specs.Runs.{Moment, Run}
 use Rattle.tally.specs.Sound.{Sound}
-use Rattle.tally.specs.Steps.{Asked, answer_to, tally_after}
 use Rattle.tally.specs.Tally.{Constants, Tally, opened}
 use Rattle.tally.proofs.Accounting.{Accounted, accounted, run_counts, run_order}
 use Rattle.tally.proofs.Crowding.{crowded_step}

@@ -12,7 +12,6 @@ use Rattle.limiters.specs.Act.{may_pass}
 use Rattle.limiters.specs.Bounds.{credit_of, earnings}
 use Rattle.limiters.specs.Pass.{passes, at_slot}
 use Rattle.limiters.specs.Place.{sent_by}
-use Rattle.limiters.specs.Single.{Single}
 use Rattle.limiters.specs.Step.{charge, full_credit}
 use Rattle.limiters.specs.Table.{fits, serving, first_free}
 use Rattle.limiters.specs.Wait.{micros}

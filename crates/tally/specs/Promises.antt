@@ -15,7 +15,6 @@ use Rattle.limiters.specs.declared.limiter.Limiter.{Limiter}
 use Rattle.limiters.specs.declared.limiter.Limiter.TheVariants.{Free, InService}
 use Rattle.limiters.specs.declared.limiter.Row.{Row}
 use Rattle.limiters.specs.declared.table.searching.Sought.TheVariants as sought
-use Rattle.tally.specs.declared.call.Answer.{Answer}
 use Rattle.tally.specs.declared.call.Answer.TheVariants.{Accepted, Heard}
 use Rattle.tally.specs.declared.call.Offered.{Offered}
 use Rattle.tally.specs.declared.call.Offered.TheVariants.{Unsampled, Quiet, Waiting, Overrun}

@@ -1,5 +1,5 @@
 -- Runs: calls in a row, each from the tally that the one before left.
-use Rattle.std.specs.Prelude.{◌≡◌, ℕ, ◌+◌, ◌≤◌, Bool, false, List, [], ◌∷◌, None}
+use Rattle.std.specs.Prelude.{◌≡◌, ◌+◌, ◌≤◌, Bool, false, List, [], ◌∷◌, None}
 use Rattle.tally.specs.declared.call.Answer.{Answer}
 use Rattle.tally.specs.Offering.{offer_refused}
 use Rattle.tally.specs.Steps.{Asked, offer, leave, deliver, receive, wait, answer_to, tally_after}

@@ -1,12 +1,11 @@
 -- Texts that are made item by item, and one turn of a loop over the items.
-use Rattle.std.proofs.Common.{◌≡◌, ℕ, ◌+◌, ◌<◌, ◌≤◌, List, [], ◌∷◌, ◌++◌, length, get_or, drop, Some, None, sym, refl, ap, ◌∙◌, append_assoc, arith}
+use Rattle.std.proofs.Common.{◌≡◌, ℕ, ◌+◌, ◌<◌, ◌≤◌, List, [], ◌∷◌, ◌++◌, length, get_or, drop, Some, None, refl, ◌∙◌, append_assoc}
 use Rattle.std.proofs.lemmas.List.{at_drop_more, at_drop_all}
 use Rattle.std.specs.List.{flat_map}
 use Rattle.text.proofs.Measured.{left_more, left_none}
 use Rattle.text.proofs.Pasting.{then_pasted, then_end, first_room}
-use Rattle.text.specs.Lines.{newline, printed_text, following_text, rest_text, line_text, table_text}
+use Rattle.text.specs.Lines.{newline, following_text, rest_text, line_text, table_text}
 use Rattle.text.specs.Steps.{left_after, pasted}
-use Rattle.text.specs.declared.printed.Printed.{Printed}
 
 -- The text of a list begins with the text of its first item.
 pub record Stepwise {X : Type 0} (text : List X → List ℕ) (item : X → List ℕ) : Type 0 where

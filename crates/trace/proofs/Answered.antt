@@ -1,5 +1,5 @@
 -- One line of a trace, by what it says.
-use Rattle.std.proofs.Common.{◌≡◌, ℕ, List, Ok, Err, sym, ap, ◌∙◌}
+use Rattle.std.proofs.Common.{◌≡◌, ℕ, List, Ok, Err, ap, ◌∙◌}
 use Rattle.commands.specs.Commands.{said}
 use Rattle.commands.specs.Said.{Said}
 use Rattle.commands.specs.declared.misread.Misread.{Misread}

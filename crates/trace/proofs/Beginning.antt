@@ -11,8 +11,8 @@ use Rattle.tally.specs.declared.frame.Frame.{Frame}
 use Rattle.tally.specs.declared.notice.Notice.{Notice}
 use Rattle.trace.specs.declared.fault.TraceFault.{TraceFault}
 use Rattle.trace.specs.declared.fault.TraceFault.TheVariants.{Settings as Unsettled}
-use Rattle.trace.specs.Replies.{Told, opened}
-use Rattle.trace.specs.Session.{Serving, Situation, shut, serving, situation_of, new_serving, opened_line, opening_reply, opened_by, reply_to, situation_after}
+use Rattle.trace.specs.Replies.{opened}
+use Rattle.trace.specs.Session.{Serving, shut, serving, situation_of, new_serving, opened_line, opening_reply, opened_by, reply_to, situation_after}
 use Rattle.trace.specs.Settled.{settled}
 use Rattle.trace.proofs.Settling.{same_ok, same_err, apart}
 

@@ -1,5 +1,5 @@
 -- What the settings' judge answers is what eight numbers settle to.
-use Rattle.std.proofs.Common.{◌≡◌, ℕ, ◌≤◌, Bool, true, false, Ok, Err, Result, sym, refl, ap, ◌∙◌, subst, arith}
+use Rattle.std.proofs.Common.{◌≡◌, ℕ, Bool, true, false, Ok, Err, Result, sym, refl, ap, ◌∙◌, arith}
 use mathlib.Core.Path.{PathP}
 use mathlib.Core.HLevel.{×_prop, is_prop→PathP}
 use native.Mathlib.Bridge.{le_prop}

@@ -1,5 +1,5 @@
 -- Why a line of a trace is refused: its number, and the field at fault.
-use Rattle.std.specs.Prelude.{ℕ, List, [], ◌∷◌, Some, None, Option}
+use Rattle.std.specs.Prelude.{ℕ, Some, None, Option}
 use Rattle.commands.specs.Misreads.{fault_number}
 use Rattle.record.specs.Refusals.{read_byte}
 use Rattle.settings.specs.Fault.{refusal}

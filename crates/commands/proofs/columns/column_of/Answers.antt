@@ -1,5 +1,5 @@
-use Rattle.std.proofs.Common.{◌≡◌, ◌+◌, ◌≤◌, ◌∷◌, ◌++◌, length, ap, ◌∙◌, arith, rules}
-use Rattle.fields.specs.Parts.{parts, parts_after, bytes_after}
+use Rattle.std.proofs.Common.{◌+◌, ◌≤◌, ◌∷◌, ◌++◌, length, ap, ◌∙◌, rules}
+use Rattle.fields.specs.Parts.{parts_after, bytes_after}
 use Rattle.commands.proofs.Walks.{begins, moved, ends, reached, within}
 use Rattle.commands.proofs.columns.column_of.Goals as goal
 

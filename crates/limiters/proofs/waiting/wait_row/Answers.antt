@@ -1,4 +1,4 @@
-use Rattle.std.proofs.Common.{◌≡◌, ◌-◌, ◌<◌, max, sym, ap, ◌∙◌, arith}
+use Rattle.std.proofs.Common.{◌≡◌, ◌<◌, max, sym, ap, ◌∙◌, arith}
 use Rattle.limiters.specs.declared.limiter.Limiter.TheVariants.{InService}
 use Rattle.limiters.specs.Wait.{micros}
 use Rattle.limiters.proofs.Jumps.{adds_up, jump_turn, rest, rest_none, micros_none}

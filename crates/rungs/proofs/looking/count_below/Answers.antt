@@ -1,5 +1,4 @@
 use Rattle.std.proofs.Common.{◌+◌, ◌/◌, arith}
-use Rattle.rungs.specs.Rungs.{rung}
 use Rattle.rungs.proofs.RungLaws.{rising_to}
 use Rattle.rungs.proofs.looking.count_below.Goals as goal
 

@@ -1,4 +1,4 @@
-use Rattle.std.proofs.Common.{◌/◌, ◌^◌, ◌<◌, ◌≤◌, arith, rules}
+use Rattle.std.proofs.Common.{◌/◌, arith, rules}
 use Rattle.text.proofs.Digits.{one_digit, one_digit_more, few_digits}
 use Rattle.text.proofs.measuring.+digits.Goals as goal
 

@@ -1,4 +1,4 @@
-use Rattle.std.proofs.Common.{◌/◌, [], ◌∷◌, decimal, sym, ◌∙◌, arith, rules}
+use Rattle.std.proofs.Common.{◌/◌, [], ◌∷◌, decimal, ◌∙◌, arith, rules}
 use Rattle.std.proofs.lemmas.Fmt.{decimal_digit, decimal_step}
 use Rattle.text.proofs.Digits.{one_digit, one_digit_more}
 use Rattle.text.proofs.Pasting.{then_pasted}

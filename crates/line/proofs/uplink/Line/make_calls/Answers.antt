@@ -1,4 +1,4 @@
-use Rattle.std.proofs.Common.{◌≡◌, ℕ, ◌<◌, map, length, take, drop, refl, ◌∙◌, subst, arith}
+use Rattle.std.proofs.Common.{◌≡◌, ◌<◌, map, length, take, drop, refl, subst, arith}
 use Rattle.tally.specs.Saying.{said}
 use Rattle.tally.specs.declared.call.Call.TheVariants.{Offer}
 use Rattle.line.specs.Serving.{made_of, Runs}

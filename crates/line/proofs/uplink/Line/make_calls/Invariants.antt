@@ -1,4 +1,4 @@
-use Rattle.std.proofs.Common.{◌≡◌, ◌≤◌, map, length, take, drop}
+use Rattle.std.proofs.Common.{◌≡◌, map, take, drop}
 use Rattle.tally.specs.Saying.{said}
 use Rattle.line.specs.Serving.{Runs}
 use Rattle.line.specs.State.{state}

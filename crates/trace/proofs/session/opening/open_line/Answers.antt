@@ -1,4 +1,4 @@
-use Rattle.std.proofs.Common.{Ok, Err, sym, ap, ◌∙◌}
+use Rattle.std.proofs.Common.{Ok, Err, ap, ◌∙◌}
 use Rattle.trace.specs.Session.{opened_line}
 use Rattle.trace.proofs.Settling.{settles}
 use Rattle.trace.proofs.session.opening.open_line.Goals as goal
