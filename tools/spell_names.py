@@ -5,8 +5,8 @@ usage: python3 tools/spell_names.py [--list] [ROOT]      ROOT: the top of a chec
 
 A definition, a lemma, a field of a record and a constructor are words joined by `_`; a fact, a record, a data type and
 a module are in camel case. Names that Rattle makes (goals, steps, loops) and those of the code keep theirs. It goes over
-specs/, proofs/ and the clauses of src/ in every crate, and refuses to run where two names would fall together.
---list prints the names and writes nothing.
+specs/, proofs/ and the clauses of src/ in every crate. Where two names would fall together it writes nothing; where a
+new name is a word of some file already it says so, to be looked at. --list prints the names and writes nothing.
 """
 
 import os
@@ -15,6 +15,7 @@ import sys
 
 STOP = r"\s(){}\[\];,.:?\"«»"
 TOKEN = re.compile(rf"[^{STOP}]+")
+COMMENT_OR_NAME = re.compile(rf"//[^\n]*|(?<![^\s])--[^\n]*|(?P<name>[^{STOP}]+)")
 DECLARED = re.compile(rf"^\s*(?:\| )?((?:pub |abbrev |unfoldable |private )*)([^{STOP}]+) :(?!=)(.*)$")
 HEADED = re.compile(r"^\s*(?:pub |abbrev |unfoldable )*(record|data|ruleset|module) (\S+)")
 ALIAS = re.compile(r"([^\s,{}]+) as ([^\s,{}]+)")
@@ -94,19 +95,19 @@ def foreign(text):
     return names
 
 
-def turn(text, new, path):
+def turn(text, new):
+    """The text with its names turned; comments keep their words."""
     taken = foreign(text)
 
-    def one(match):
-        name = match[0]
-        if name not in new or name in taken:
-            return name
-        before = text[: match.start()]
-        if re.search(r"\b(?:goal|need|choice|choose|given)s?\.$", before):
-            return name
-        return new[name]
+    def name(match):
+        word = match["name"]
+        if word is None or word not in new or word in taken:
+            return match[0]
+        if re.search(r"\b(?:goal|need|choice|choose|given)s?\.$", text[: match.start()]):
+            return word
+        return new[word]
 
-    return TOKEN.sub(one, text)
+    return COMMENT_OR_NAME.sub(name, text)
 
 
 def main(arguments):
@@ -118,19 +119,22 @@ def main(arguments):
     back = {}
     for old, name in sorted(new.items()):
         back.setdefault(name, []).append(old)
+    together = {name: olds for name, olds in sorted(back.items()) if len(olds) > 1}
+    for name, olds in together.items():
+        print(f"two names fall together: {olds} -> {name}")
     for name, olds in sorted(back.items()):
-        if len(olds) > 1:
-            print(f"two names fall together: {olds} -> {name}")
-        elif name in seen:
-            print(f"taken: {olds[0]} -> {name} in {sorted(os.path.relpath(p, root) for p in seen[name])[:6]}")
+        if name in seen:
+            print(f"look: {olds[0]} -> {name}, a word of {sorted(os.path.relpath(p, root) for p in seen[name])[:6]}")
     if listing:
         for old, name in sorted(new.items()):
             print(f"{old} {name}")
         return 0
+    if together:
+        return 1
     for path in files(root):
         with open(path, encoding="utf-8") as file:
             text = file.read()
-        turned = turn(text, new, path)
+        turned = turn(text, new)
         if turned != text:
             with open(path, "w", encoding="utf-8") as file:
                 file.write(turned)
