@@ -77,8 +77,8 @@ module _ (floor : ℕ) (cut_to : ℕ → ℕ → ℕ) (raised_to : ℕ → Rates
     pub falls : (line current value : ℕ) → Bounded floor line current → 1 ≤ value → value ≤ 63 → Falls floor current (cut_to current value)
     pub rises : (line : ℕ) (r : Rates) (s : Stages) → Raisable floor line r → Rises line r (raised_to line r s)
 
-  pub lawful : Shown → Lawful (ruled floor cut_to raised_to)
-  lawful h = record {
+  pub ruled_lawful : Shown → Lawful (ruled floor cut_to raised_to)
+  ruled_lawful h = record {
     floor_low = h.floor_low;
     floor_high = h.floor_high;
     cuts = λ line c v e.

@@ -12,7 +12,7 @@ use Rattle.rates.specs.Rule.{Falls, Rises, Lawful}
 use Rattle.rungs.specs.Rungs.{rung, count, IsRung, GreatestBelow, LeastFrom, greatest_below, least_from}
 use Rattle.rates.specs.RungRule.{rung_floor, rung_cut, rung_cut_to, rung_current, rung_raised_to, by_rungs}
 use Rattle.rates.specs.Standard.{reduced, raised_to}
-use Rattle.rates.specs.Conditions.{lawful}
+use Rattle.rates.specs.Conditions.{ruled_lawful}
 use Rattle.rungs.proofs.RungLaws.{next_above, next_twice, rising_to}
 use Rattle.rungs.proofs.RungSearch.{greatest_is, least_is}
 use Rattle.rates.specs.StandardLaws.{reduced_half, reduced_lower, raise_rises}
@@ -98,7 +98,7 @@ rung_rises f line r s up =
     record { not_lower = moved.0; below_line = omega (arith, moved.1, up.below_line); ordered = omega (arith, moved.1, up.ordered); target_ends = up.target_ends }
 
 pub rungs_lawful : (f : Figures) → In Gain f → Lawful (by_rungs f)
-rungs_lawful f gain = lawful rung_floor (rung_cut_to f) (rung_raised_to f) (record {
+rungs_lawful f gain = ruled_lawful rung_floor (rung_cut_to f) (rung_raised_to f) (record {
   floor_low = omega arith;
   floor_high = omega arith;
   falls = λ line c v b low high. cut_falls f gain v low c (omega (arith, b.to_line, b.line_high)) b.from_floor;

@@ -10,7 +10,7 @@ use Rattle.rates.specs.declared.rates.Rates.{Rates}
 use Rattle.rates.specs.declared.rates.Stages.{Stages}
 use Rattle.rates.specs.Rule.{Falls, Rises, Lawful, largest_target}
 use Rattle.rates.specs.Standard.{standard, standard_floor, decrease, reduced, cut_to, next_target, raised_to}
-use Rattle.rates.specs.Conditions.{lawful}
+use Rattle.rates.specs.Conditions.{ruled_lawful}
 
 module _ (f : Figures) (gain : In Gain f) (value : ℕ) (low : 1 ≤ value) where
   decrease_low : 1 ≤ decrease f value
@@ -50,7 +50,7 @@ raise_rises f line r s below ordered ends =
     record { not_lower = omega arith; below_line = omega arith; ordered = omega arith; target_ends = most }
 
 pub standard_lawful : (f : Figures) → In Gain f → Lawful (standard f)
-standard_lawful f gain = lawful standard_floor (cut_to f) (raised_to f) (record {
+standard_lawful f gain = ruled_lawful standard_floor (cut_to f) (raised_to f) (record {
   floor_low = omega arith;
   floor_high = omega arith;
   falls = λ line c v b low high. cut_falls f gain v low c b.from_floor;
