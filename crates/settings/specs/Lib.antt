@@ -1,3 +1,4 @@
 pub mod Fault
 pub mod Ranges
 pub mod Judged
+pub mod Letters

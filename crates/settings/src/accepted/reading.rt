@@ -4,6 +4,7 @@ ghost use Rattle.settings.specs.declared.fault.SettingsFault.TheVariants.{LineRa
 
 use crate::accepted::Settings;
 
+// One reader for each number, though they differ in the field alone: a caller is told the range of that one.
 impl Settings {
     // C, kbit/s.
     pub fn line_rate(&self) -> u32
