@@ -10,6 +10,7 @@ use crate::layout::{COUNTED, FLOW_AT, GREATEST, STATION_AT, VALUE_AT, VERSION, V
 
 // The record that the bytes are, or the first fault that they have.
 // The count ends where the version begins, and the version where the station does.
+// `read` and not `try_from`, since it is the other half of `write`.
 pub fn read(bytes: &[u8]) -> Result<Record, ReadFault>
     ensures answer { result ≡ decoded bytes.now }
     ensures law { IfOk result (λ x. (encoded x ≡ bytes.now) × (x.value ≤ greatest)) }
@@ -55,6 +56,7 @@ fn fields_of(bytes: &[u8]) -> Record
     }
 }
 
+// By place, as the layout names them.
 fn station_of(bytes: &[u8]) -> [u8; 6]
     requires { size ≤ length bytes.now }
     ensures answer { result ≡ (fields bytes.now).station }

@@ -36,7 +36,7 @@ fn encode(record: &Record) -> [u8; SIZE]
     joined(count, record.station, flow, record.value)
 }
 
-// The fields one after the other.
+// The fields one after the other, by place, as the layout names them.
 fn joined(count: [u8; 2], station: [u8; 6], flow: [u8; 4], value: u8) -> [u8; SIZE]
     ensures answer { result ≡ bytes_from 0 2 count ++ version ∷ (bytes_from 0 6 station ++ (bytes_from 0 4 flow ++ value ∷ [])) }
 {
