@@ -1,13 +1,15 @@
 -- First in, first out: what was taken off followed by what waits is what waited followed by what was put in.
-use Rattle.std.proofs.Common.{◌≡◌, ℕ, suc, ◌-◌, ◌<◌, ◌≤◌, List, [], ◌∷◌, ◌++◌, length, get_or, is_ok, sym, refl, ap, ◌∙◌, inl, inr, arith}
+use Rattle.std.proofs.Common.{◌≡◌, ℕ, suc, ◌-◌, ◌<◌, ◌≤◌, List, [], ◌∷◌, ◌++◌, Result, length, get_or, is_ok, sym, refl, ap, ◌∙◌, inl, inr, arith}
 use Rattle.std.proofs.lemmas.List.{append-nil, append_assoc, get_or_default}
 use Rattle.std.proofs.lemmas.Bool.{cond_both}
 use Rattle.std.proofs.lemmas.Bool.Decides.{leb_tells, eqb_tells, nat_tests}
 use Rattle.ring.specs.declared.calls.Call.{Call}
 use Rattle.ring.specs.declared.calls.Call.TheVariants.{Push, Pop}
 use Rattle.ring.specs.declared.calls.Answer.{Answer}
-use Rattle.ring.specs.Standing.{Standing, popped}
-use Rattle.ring.specs.Held.{waiting}
+use Rattle.ring.specs.declared.fault.RingFault.{RingFault}
+use Rattle.ring.specs.declared.fifo.Ring.{Ring}
+use Rattle.ring.specs.Standing.{Standing, standing_of, popped}
+use Rattle.ring.specs.Held.{waiting, held}
 use Rattle.ring.specs.Answers.{pop_answer}
 use Rattle.ring.specs.Calls.{answer_to, standing_after, memory_after}
 use Rattle.ring.specs.Runs.{answers_to, standing_at_end, memory_at_end, taken_by, taken_off, put_by, put_in}
@@ -91,7 +93,9 @@ module _ {T : Type 0} where
 
   -- The law of a whole list of calls.
   pub in_order :
-      (s : Standing) (m : List T) (calls : List (Call T)) (answers : List (Answer T)) (s' : Standing) (m' : List T) → Sound s
-      → answers ≡ answers_to s m calls → s' ≡ standing_at_end s m calls → m' ≡ memory_at_end s m calls
-      → taken_off answers ++ waiting s' m' ≡ waiting s m ++ put_in calls answers
-  in_order s m calls answers s' m' sound answered stands holds = rw (answered, stands, holds) (in_order_computed s m calls sound)
+      (r : Ring) (m : List T) (calls : List (Call T)) (answers : List (Result (Answer T) RingFault)) (r' : Ring) (m' : List T)
+      → answers ≡ answers_to (standing_of r) m calls → standing_of r' ≡ standing_at_end (standing_of r) m calls → m' ≡ memory_at_end (standing_of r) m calls
+      → taken_off answers ++ held r' m' ≡ held r m ++ put_in calls answers
+  in_order r m calls answers r' m' answered stands holds =
+      let sound : Sound (standing_of r) = record { head_in = r.head_in; count_in = r.count_in } in
+      ap (λ s. taken_off answers ++ waiting s m') stands ∙ rw (answered, holds) (in_order_computed (standing_of r) m calls sound)

@@ -4,20 +4,20 @@ use Rattle.ring.specs.declared.fault.RingFault.{RingFault}
 use Rattle.ring.specs.declared.calls.Call.{Call}
 use Rattle.ring.specs.declared.calls.Call.TheVariants.{Push, Pop}
 use Rattle.ring.specs.declared.calls.Answer.{Answer}
-use Rattle.ring.specs.declared.calls.Answer.TheVariants.{Accepted, Taken, Refused}
+use Rattle.ring.specs.declared.calls.Answer.TheVariants.{Accepted, Taken}
 use Rattle.ring.specs.Standing.{Standing, pushed, popped, tail_place}
 use Rattle.ring.specs.Answers.{push_answer, pop_answer}
 
 -- What a push and a pop answered, as the answer of a call.
-abbrev pub of_push : {T : Type 0} → Result (Unit {0}) RingFault → Answer T
-of_push (Ok u) = Accepted
-of_push (Err fault) = Refused fault
+abbrev pub of_push : {T : Type 0} → Result (Unit {0}) RingFault → Result (Answer T) RingFault
+of_push (Ok u) = Ok Accepted
+of_push (Err fault) = Err fault
 
-abbrev pub of_pop : {T : Type 0} → Result T RingFault → Answer T
-of_pop (Ok item) = Taken item
-of_pop (Err fault) = Refused fault
+abbrev pub of_pop : {T : Type 0} → Result T RingFault → Result (Answer T) RingFault
+of_pop (Ok item) = Ok (Taken item)
+of_pop (Err fault) = Err fault
 
-abbrev pub answer_to : {T : Type 0} → Standing → List T → Call T → Answer T
+abbrev pub answer_to : {T : Type 0} → Standing → List T → Call T → Result (Answer T) RingFault
 answer_to s memory (Push item) = of_push (push_answer s memory)
 answer_to s memory Pop = of_pop (pop_answer s memory)
 

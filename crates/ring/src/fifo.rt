@@ -5,7 +5,7 @@ mod putting;
 mod reading;
 mod taking;
 
-// A ring's bookkeeping. The items lie in memory that each call is handed.
+// A ring's bookkeeping. The items lie in memory that each call is handed, so each call asks whether that has `size` places.
 #[derive(Clone, Copy)]
 pub struct Ring {
     // The place of the oldest item.

@@ -4,6 +4,7 @@ ghost use Rattle.ring.specs.declared.fault.RingFault.TheVariants.{Full};
 use ring::fault::RingFault;
 use ring::fifo::Ring;
 
+// A record of its own, as the notice is: the ring rests on no crate that has one.
 #[derive(Clone, Copy, PartialEq, Eq, Debug)]
 pub struct Frame {
     pub flow: u32,
@@ -18,6 +19,5 @@ pub fn pass_through(memory: &mut [Frame], frame: Frame) -> Result<Frame, RingFau
 {
     let mut ring = Ring::new(memory.len());
     ring.push(memory, frame)?;
-    let oldest = ring.pop(memory)?;
-    Ok(oldest)
+    ring.pop(memory)
 }
