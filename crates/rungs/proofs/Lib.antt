@@ -1,2 +1,3 @@
 pub mod RungLaws
 pub mod RungSearch
+pub mod RungTable

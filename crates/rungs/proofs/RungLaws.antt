@@ -1,13 +1,17 @@
 -- The rungs rise strictly, and none is more than twice the one before.
-use Rattle.std.proofs.Common.{◌≡◌, ℕ, zero, suc, ◌+◌, ◌*◌, ◌<◌, ◌≤◌, Bool, true, ◌&&◌, ltb, leb, get_or, sym, refl, ap, ◌∙◌, subst, ⊎_elim, add-zero, add-suc, suc-add, arith}
+use Rattle.std.proofs.Common.{◌≡◌, ℕ, zero, suc, ◌+◌, ◌*◌, ◌<◌, ◌≤◌, Bool, true, ◌&&◌, ltb, leb, length, get_or, sym, refl, ap, ◌∙◌, subst, ⊎_elim, add-zero, add-suc, suc-add, arith}
 use Rattle.std.proofs.lemmas.Bool.{and_parts, ltb-true, leb-true, cases_eq}
 use Rattle.rungs.specs.Rungs.{rung, listed, count, Rising}
 
-pub listed_at : (n a k : ℕ) → k < n → get_or (listed a n) k 0 ≡ rung (a + k)
+pub listed_at : (n a k d : ℕ) → k < n → get_or (listed a n) k d ≡ rung (a + k)
 unfolding rung
-listed_at zero a k h = absurd (omega arith)
-listed_at (suc n) a zero h = ap rung (sym (add-zero a))
-listed_at (suc n) a (suc k) h = listed_at n (suc a) k (omega arith) ∙ ap rung (suc-add a k ∙ sym (add-suc a k))
+listed_at zero a k d h = absurd (omega arith)
+listed_at (suc n) a zero d h = ap rung (sym (add-zero a))
+listed_at (suc n) a (suc k) d h = listed_at n (suc a) k d (omega arith) ∙ ap rung (suc-add a k ∙ sym (add-suc a k))
+
+pub length-listed : (n a : ℕ) → length (listed a n) ≡ n
+length-listed zero a = refl
+length-listed (suc n) a = ap suc (length-listed n (suc a))
 
 -- each of the first n neighbours: the next rung is above, and at most twice
 unfoldable neighbours : ℕ → Bool

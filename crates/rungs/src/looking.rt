@@ -1,56 +1,34 @@
-ghost use Rattle.std.specs.Prelude.{◌≡◌, ◌+◌, ◌<◌, slice_index};
-ghost use Rattle.rungs.specs.Rungs.{rung, listed, Parted, greatest_below, least_from, GreatestBelow, LeastFrom};
+ghost use Rattle.std.specs.Prelude.{◌≡◌, ◌+◌};
+ghost use Rattle.rungs.specs.Rungs.{listed, Parted, greatest_below, least_from, GreatestBelow, LeastFrom};
 
 use crate::table::RUNGS;
 
-// How many rungs there are.
-const COUNT: usize = 640;
-
-fn entry(i: usize) -> u32
-    requires { i < 640 }
-    ensures answer { result ≡ slice_index (listed 0 640) i }
+// The rungs, lowest first.
+fn rungs() -> &'static [u32]
+    ensures answer { result.now ≡ listed 0 640 }
 {
-    RUNGS[i]
+    &RUNGS
 }
 
-fn rung(i: usize) -> u32
-    requires { i < 640 }
-    ensures answer { result ≡ rung i }
-{
-    entry(i)
-}
-
-// How many rungs are below a rate, by bisection.
+// How many rungs are below a rate.
 fn count_below(rate: u64) -> usize
     ensures answer { Parted rate result }
 {
-    let mut low = 0;
-    let mut high = COUNT;
-    while low < high {
-        let middle = (low + high) / 2;
-        if (rung(middle) as u64) < rate {
-            low = middle + 1;
-        } else {
-            high = middle;
-        }
-    }
-    low
+    rungs().partition_point(|rung| (*rung as u64) < rate)
 }
 
 fn greatest_under(limit: u64) -> Option<u32>
     ensures answer { result ≡ greatest_below limit }
     ensures law { GreatestBelow limit result }
 {
-    let n = count_below(limit);
-    if n > 0 { Some(rung(n - 1)) } else { None }
+    rungs()[..count_below(limit)].last().copied()
 }
 
 fn least_from(limit: u64) -> Option<u32>
     ensures answer { result ≡ least_from limit }
     ensures law { LeastFrom limit result }
 {
-    let n = count_below(limit);
-    if n < COUNT { Some(rung(n)) } else { None }
+    rungs().get(count_below(limit)).copied()
 }
 
 // The greatest rung below a rate.

@@ -1,13 +1,12 @@
-use Rattle.std.proofs.Common.{◌+◌, ◌/◌, arith}
-use Rattle.rungs.proofs.RungLaws.{rising_to}
+use Rattle.std.proofs.Common.{ltb, rules}
+use Rattle.std.proofs.lemmas.List.Sorted.{IsPartitionPoint-from_clause, IsPartitionedBy-ltb}
+use Rattle.rungs.proofs.RungTable.{is_table, table_rises, parted_at}
 use Rattle.rungs.proofs.looking.count_below.Goals as goal
 
-pub loop-low-preserved-then-rung-rate : goal.loop-low-preserved-then-rung-rate
-loop-low-preserved-then-rung-rate c =
-    let middle = (c.loop-low.low + c.loop-low.high) / 2 in
-    (omega arith, omega arith, λ k h. omega (arith, rising_to k middle (omega arith) (omega arith), c.rung.ensures.answer), c.loop-low.invariant.3)
-
-pub loop-low-preserved : goal.loop-low-preserved
-loop-low-preserved c =
-    let middle = (c.loop-low.low + c.loop-low.high) / 2 in
-    (omega arith, omega arith, c.loop-low.invariant.2, λ k h within. omega (arith, rising_to middle k h within, c.rung.ensures.answer))
+pub returns : goal.returns
+returns c =
+    let xs = c.rungs.result.now in
+    let table = is_table xs c.rungs.ensures.answer in
+    let sorted = IsPartitionedBy-ltb (λ r. r) xs c.args.rate (table_rises xs table) in
+    let point = IsPartitionPoint-from_clause (λ r. ltb r c.args.rate) xs _ c.partition_point.ensures.partitioned sorted (λ a r q k. search rules) in
+    record { answer = parted_at xs table _ _ c.partition_point.ensures.bound point }

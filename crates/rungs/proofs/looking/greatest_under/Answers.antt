@@ -1,15 +1,12 @@
-use Rattle.std.proofs.Common.{◌≡◌, Some, sym, subst, arith}
+use Rattle.std.proofs.Common.{◌≡◌, sym, ◌∙◌, subst}
 use Rattle.rungs.specs.Rungs.{greatest_below, GreatestBelow}
-use Rattle.rungs.proofs.RungSearch.{below_none, below_some}
+use Rattle.rungs.proofs.RungSearch.{greatest_is}
+use Rattle.rungs.proofs.RungTable.{is_table, last_is_greatest}
 use Rattle.rungs.proofs.looking.greatest_under.Goals as goal
 
-pub returns-then-n-gt0 : goal.returns-then-n-gt0
-returns-then-n-gt0 c =
+pub returns : goal.returns
+returns c =
     let limit = c.args.limit in
-    let found = subst (λ r. (Some r ≡ greatest_below limit) × GreatestBelow limit (Some r)) (sym c.rung.ensures.answer) (below_some limit _ c.count_below-n.ensures.answer c.if-n-gt0.true) in
-    record { answer = found.0; law = found.1 }
-
-pub returns-else-n-gt0 : goal.returns-else-n-gt0
-returns-else-n-gt0 c =
-    let found = below_none c.args.limit c.count_below-n.result c.count_below-n.ensures.answer (omega arith) in
-    record { answer = found.0; law = found.1 }
+    let table = is_table c.rungs.result.now c.rungs.ensures.answer in
+    let found : c.copied.result ≡ greatest_below limit = c.copied.ensures ∙ c.last.ensures.value ∙ last_is_greatest _ table limit _ c.count_below.ensures.answer in
+    record { answer = found; law = subst (GreatestBelow limit) (sym found) (greatest_is limit) }

@@ -1,15 +1,12 @@
-use Rattle.std.proofs.Common.{◌≡◌, Some, sym, subst}
+use Rattle.std.proofs.Common.{◌≡◌, sym, ◌∙◌, subst}
 use Rattle.rungs.specs.Rungs.{least_from, LeastFrom}
-use Rattle.rungs.proofs.RungSearch.{from_none, from_some}
+use Rattle.rungs.proofs.RungSearch.{least_is}
+use Rattle.rungs.proofs.RungTable.{is_table, entry_is_least}
 use Rattle.rungs.proofs.looking.least_from.Goals as goal
 
-pub returns-then-n-lt-COUNT : goal.returns-then-n-lt-COUNT
-returns-then-n-lt-COUNT c =
+pub returns : goal.returns
+returns c =
     let limit = c.args.limit in
-    let found = subst (λ r. (Some r ≡ least_from limit) × LeastFrom limit (Some r)) (sym c.rung.ensures.answer) (from_some limit _ c.count_below-n.ensures.answer c.if-n-lt-COUNT.true) in
-    record { answer = found.0; law = found.1 }
-
-pub returns-else-n-lt-COUNT : goal.returns-else-n-lt-COUNT
-returns-else-n-lt-COUNT c =
-    let found = from_none c.args.limit c.count_below-n.result c.count_below-n.ensures.answer c.if-n-lt-COUNT.false in
-    record { answer = found.0; law = found.1 }
+    let table = is_table c.rungs.result.now c.rungs.ensures.answer in
+    let found : c.copied.result ≡ least_from limit = c.copied.ensures ∙ entry_is_least _ table limit _ c.count_below.ensures.answer c.get.result c.get.ensures.lookup in
+    record { answer = found; law = subst (LeastFrom limit) (sym found) (least_is limit) }
