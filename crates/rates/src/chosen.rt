@@ -3,12 +3,14 @@ ghost use Rattle.rates.specs.Chosen.{kind_of, meant, meant_by, chosen_rule};
 ghost use Rattle.rates.specs.declared.chosen.ChosenRule.TheVariants.{Standard, Rungs};
 ghost use Rattle.rates.specs.RungRuleLaws.{rungs_lawful};
 ghost use Rattle.rates.specs.StandardLaws.{standard_lawful};
+ghost use Rattle.settings.specs.Letters.{named_or_told};
 
 use crate::rate_rule::RateRule;
 use crate::rates::{Rates, Stages};
 use crate::rung_rule::RungRule;
 use crate::standard::Standard;
 use settings::accepted::Settings;
+use settings::letter::UnknownLetter;
 
 // The rules that there are.
 #[derive(Clone, Copy)]
@@ -17,20 +19,22 @@ pub enum RuleKind {
     Rungs,
 }
 
-impl RuleKind {
-    // The rule that a letter stands for in text.
-    pub fn from_letter(letter: char) -> Option<RuleKind>
-        ensures answer { result ≡ kind_of letter }
-    {
+// The rule that a letter stands for in text.
+impl TryFrom<char> for RuleKind {
+    type Error = UnknownLetter;
+
+    ghost try_from_gives = { λ letter r. r ≡ named_or_told (kind_of letter) letter };
+
+    fn try_from(letter: char) -> Result<Self, UnknownLetter> {
         match letter {
-            'q' => Some(RuleKind::Standard),
-            'g' => Some(RuleKind::Rungs),
-            _ => None,
+            'q' => Ok(RuleKind::Standard),
+            'g' => Ok(RuleKind::Rungs),
+            _ => Err(UnknownLetter(letter)),
         }
     }
 }
 
-// A rule that is chosen while the program runs.
+// A rule that is chosen while the program runs. An enum and no `dyn`: there are just these rules, and no heap here.
 #[derive(Clone, Copy)]
 pub enum ChosenRule {
     Standard(Standard),

@@ -31,27 +31,24 @@ pub trait RateRule {
     ghost lawful: { (x : Self) → Lawful (meaning x) };
 }
 
+// Floor, line rate and current rate come apart, here and below, as the trait's calls are given them.
 fn in_bounds(floor: u32, line_rate: u32, current: u32) -> bool
     ensures answer { result ≡ in_bounds floor line_rate current }
 {
-    SLOWEST <= line_rate && line_rate <= FASTEST && floor <= current && current <= line_rate
+    (SLOWEST..=FASTEST).contains(&line_rate) && (floor..=line_rate).contains(&current)
 }
 
 // Whether a rule cuts at all: other arguments are answered with the rate that was given.
 pub(crate) fn may_cut(floor: u32, line_rate: u32, current: u32, value: u8) -> bool
     ensures answer { result ≡ cuttable floor line_rate current value }
 {
-    in_bounds(floor, line_rate, current) && 1 <= value && value <= LARGEST_VALUE
+    in_bounds(floor, line_rate, current) && (1..=LARGEST_VALUE).contains(&value)
 }
 
 // The rates as a pair where a rule raises them: others are answered as they were given.
 pub(crate) fn may_raise(floor: u32, line_rate: u32, rates: Rates) -> Option<RatePair>
     ensures answer { told result ≡ (if raisable floor line_rate rates then Some rates else None) }
 {
-    let pair = RatePair::new(rates)?;
-    if in_bounds(floor, line_rate, pair.current) && pair.target <= LARGEST_TARGET {
-        Some(pair)
-    } else {
-        None
-    }
+    RatePair::new(rates).filter(|pair| in_bounds(floor, line_rate, pair.current)
+        && pair.target <= LARGEST_TARGET)
 }

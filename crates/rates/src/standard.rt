@@ -102,7 +102,7 @@ impl RateRule for Standard {
 
     fn raise(&self, line_rate: u32, rates: Rates, stages: Stages) -> Rates {
         match may_raise(FLOOR, line_rate, rates) {
-            Some(pair) => self.raised(line_rate, pair, stages).rates(),
+            Some(pair) => self.raised(line_rate, pair, stages).into(),
             None => rates,
         }
     }

@@ -7,8 +7,9 @@ use std::test::Fail;
 
 const LINE_RATE: u32 = 10_000_000;
 
+// Written out, though other crates' examples have the like: the rates below are reckoned from these eight.
 fn rule() -> Result<RungRule, Fail> {
-    let accepted = Settings::accept(Figures {
+    Settings::accept(Figures {
         line_rate: LINE_RATE,
         gain: 8,
         step_a: 5_000,
@@ -17,11 +18,9 @@ fn rule() -> Result<RungRule, Fail> {
         byte_limit: 150_000,
         set_point: 16,
         weight: 2,
-    });
-    match accepted {
-        Ok(settings) => Ok(RungRule::new(settings)),
-        Err(_) => Err(Fail::new("the settings are refused")),
-    }
+    })
+    .map(RungRule::new)
+    .map_err(|_| Fail::new("the settings are refused"))
 }
 
 // Gain 8: value 1 leaves 1016/1024 of a rate, value 63 leaves 520/1024. Rungs: 10,048 and 10,205 begin the first

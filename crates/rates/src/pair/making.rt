@@ -5,7 +5,7 @@ use crate::pair::RatePair;
 use crate::rates::Rates;
 
 impl RatePair {
-    // The two rates where they are in order.
+    // The two rates where they are in order. No error says why they are not: there is one reason.
     pub fn new(rates: Rates) -> Option<RatePair>
         ensures answer { told result ≡ paired rates }
     {
@@ -17,13 +17,15 @@ impl RatePair {
             target: rates.target,
         })
     }
+}
 
-    pub fn rates(self) -> Rates
-        ensures answer { result ≡ rates_of self }
-    {
+impl From<RatePair> for Rates {
+    ghost from_gives = { λ pair r. r ≡ rates_of pair };
+
+    fn from(pair: RatePair) -> Rates {
         Rates {
-            current: self.current,
-            target: self.target,
+            current: pair.current,
+            target: pair.target,
         }
     }
 }
