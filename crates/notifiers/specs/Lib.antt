@@ -1,5 +1,6 @@
 pub mod Severity
 pub mod Meter
+pub mod Sampler
 pub mod Bytes
 pub mod Frames
 pub mod Representative

@@ -1,12 +1,9 @@
 ghost use Rattle.std.specs.Prelude.{◌≡◌, ◌≤◌};
-ghost use Rattle.notifiers.specs.Bytes.{new_bytes, period, byte_meter, byte_samples, byte_next};
+ghost use Rattle.notifiers.specs.Bytes.{period, byte_due, byte_spacing, byte_gap, first_bytes};
 ghost use Rattle.std.proofs.Common.{rules};
 
-use crate::notifier::Notifier;
-use crate::severity::severity;
-use crate::shown::{Showing, Shown};
-use crate::value::value;
-use settings::accepted::Settings;
+use crate::sampler::Sampler;
+use crate::spacing::Spacing;
 
 // How many bytes pass between samples, by the eighth that the severity is in: the more severe, the sooner.
 const PERIODS: [u32; 8] = [
@@ -14,13 +11,12 @@ const PERIODS: [u32; 8] = [
 ];
 
 // Samples by the bytes since the last sample.
-#[derive(Clone, Copy)]
-pub struct Bytes {
-    settings: Settings,
-    old: u32,
-    since: u32,
-}
+pub type Bytes = Sampler<ByBytes>;
 
+#[derive(Clone, Copy)]
+pub struct ByBytes;
+
+// At most 63 is asked here: a type of severities would be opened again at each use, and only this table needs the bound.
 fn period(severity: u8) -> u32
     requires { severity ≤ 63 }
     ensures answer { result ≡ period severity }
@@ -29,55 +25,24 @@ fn period(severity: u8) -> u32
     PERIODS[(severity / 8) as usize]
 }
 
-impl Bytes {
-    pub fn new(settings: Settings) -> Bytes
-        ensures answer { result ≡ new_bytes settings }
-    {
-        Bytes {
-            settings,
-            old: 0,
-            since: 0,
-        }
-    }
-}
+impl Spacing for ByBytes {
+    ghost gap = { byte_gap };
 
-impl Notifier for Bytes {
-    ghost meter = { byte_meter };
+    ghost first = { first_bytes };
 
-    ghost samples = { byte_samples };
+    ghost due = { byte_due };
 
-    ghost next = { byte_next };
+    ghost after = { byte_spacing };
 
-    ghost due = { Prim.search rules };
+    ghost small = { Prim.search rules };
 
-    ghost moves = { Prim.search rules };
+    ghost in_time = { Prim.search rules };
 
-    ghost alone = { Prim.search rules };
-
-    fn show(&mut self, shown: Shown) -> Showing {
-        if !shown.is_lawful() {
-            return Showing::Unsampled;
-        }
-        let severity = severity(&self.settings, shown.pages, self.old);
-        if self.since > period(severity) {
-            self.old = shown.pages;
-            self.since = 0;
-            value(severity, false, shown.mark)
-        } else {
-            self.since += shown.length;
-            Showing::Unsampled
-        }
+    fn start() -> ByBytes {
+        ByBytes
     }
 
-    fn set_point(&self) -> u32 {
-        self.settings.set_point()
-    }
-
-    fn weight(&self) -> u32 {
-        self.settings.weight()
-    }
-
-    fn old(&self) -> u32 {
-        self.old
+    fn count(&mut self, severity: u8, since: u32, _length: u32) -> bool {
+        since > period(severity)
     }
 }

@@ -2,6 +2,7 @@ ghost use Rattle.std.specs.Prelude.{◌≡◌};
 ghost use Rattle.notifiers.specs.Chosen.{kind_of, chosen_new, chosen_meter, chosen_samples, chosen_next};
 ghost use Rattle.std.proofs.Common.{rules};
 ghost use Rattle.notifiers.specs.declared.chosen.ChosenNotifier.TheVariants.{Bytes, Frames, RepresentativeBytes, RepresentativeFrames};
+ghost use Rattle.settings.specs.Letters.{named_or_told};
 
 use crate::bytes::Bytes;
 use crate::frames::Frames;
@@ -9,6 +10,7 @@ use crate::notifier::Notifier;
 use crate::representative::Representative;
 use crate::shown::{Showing, Shown};
 use settings::accepted::Settings;
+use settings::letter::UnknownLetter;
 
 // The notifiers that there are.
 #[derive(Clone, Copy)]
@@ -19,22 +21,24 @@ pub enum NotifierKind {
     RepresentativeFrames,
 }
 
-impl NotifierKind {
-    // The notifier that a letter stands for in text.
-    pub fn from_letter(letter: char) -> Option<NotifierKind>
-        ensures answer { result ≡ kind_of letter }
-    {
+// The notifier that a letter stands for in text.
+impl TryFrom<char> for NotifierKind {
+    type Error = UnknownLetter;
+
+    ghost try_from_gives = { λ letter r. r ≡ named_or_told (kind_of letter) letter };
+
+    fn try_from(letter: char) -> Result<Self, UnknownLetter> {
         match letter {
-            'b' => Some(NotifierKind::Bytes),
-            'f' => Some(NotifierKind::Frames),
-            'B' => Some(NotifierKind::RepresentativeBytes),
-            'F' => Some(NotifierKind::RepresentativeFrames),
-            _ => None,
+            'b' => Ok(NotifierKind::Bytes),
+            'f' => Ok(NotifierKind::Frames),
+            'B' => Ok(NotifierKind::RepresentativeBytes),
+            'F' => Ok(NotifierKind::RepresentativeFrames),
+            _ => Err(UnknownLetter(letter)),
         }
     }
 }
 
-// A notifier that is chosen while the program runs.
+// A notifier that is chosen while the program runs. An enum, since the kinds are closed and nothing may stand on the heap.
 #[derive(Clone, Copy)]
 pub enum ChosenNotifier {
     Bytes(Bytes),
@@ -68,48 +72,22 @@ impl Notifier for ChosenNotifier {
     ghost next = { chosen_next };
 
     ghost due = { elim [
-      | Bytes x ↦ λ s fine past. Prim.search rules
-      | Frames x ↦ λ s fine past. Prim.search rules
-      | RepresentativeBytes x ↦ λ s fine past. Prim.search rules
-      | RepresentativeFrames x ↦ λ s fine past. Prim.search rules
+      | Bytes x ↦ Prim.search rules
+      | Frames x ↦ Prim.search rules
+      | RepresentativeBytes x ↦ Prim.search rules
+      | RepresentativeFrames x ↦ Prim.search rules
     ] };
 
-    ghost moves = { elim [
-      | Bytes x ↦ λ s. Prim.search rules
-      | Frames x ↦ λ s. Prim.search rules
-      | RepresentativeBytes x ↦ λ s. Prim.search rules
-      | RepresentativeFrames x ↦ λ s. Prim.search rules
-    ] };
+    ghost moves = { Prim.search rules };
 
-    ghost alone = { elim [
-      | Bytes x ↦ λ s bad. Prim.search rules
-      | Frames x ↦ λ s bad. Prim.search rules
-      | RepresentativeBytes x ↦ λ s bad. Prim.search rules
-      | RepresentativeFrames x ↦ λ s bad. Prim.search rules
-    ] };
+    ghost alone = { Prim.search rules };
 
     fn show(&mut self, shown: Shown) -> Showing {
-        match *self {
-            ChosenNotifier::Bytes(mut notifier) => {
-                let showing = notifier.show(shown);
-                *self = ChosenNotifier::Bytes(notifier);
-                showing
-            }
-            ChosenNotifier::Frames(mut notifier) => {
-                let showing = notifier.show(shown);
-                *self = ChosenNotifier::Frames(notifier);
-                showing
-            }
-            ChosenNotifier::RepresentativeBytes(mut notifier) => {
-                let showing = notifier.show(shown);
-                *self = ChosenNotifier::RepresentativeBytes(notifier);
-                showing
-            }
-            ChosenNotifier::RepresentativeFrames(mut notifier) => {
-                let showing = notifier.show(shown);
-                *self = ChosenNotifier::RepresentativeFrames(notifier);
-                showing
-            }
+        match self {
+            ChosenNotifier::Bytes(notifier) => notifier.show(shown),
+            ChosenNotifier::Frames(notifier) => notifier.show(shown),
+            ChosenNotifier::RepresentativeBytes(notifier) => notifier.show(shown),
+            ChosenNotifier::RepresentativeFrames(notifier) => notifier.show(shown),
         }
     }
 

@@ -1,12 +1,9 @@
-ghost use Rattle.std.specs.Prelude.{◌≡◌, ◌+◌, ◌≤◌, ◌||◌, nat_le, nat_lt};
-ghost use Rattle.notifiers.specs.Frames.{new_frames, threshold, frame_meter, frame_samples, frame_next};
+ghost use Rattle.std.specs.Prelude.{◌≡◌, ◌≤◌};
+ghost use Rattle.notifiers.specs.Frames.{threshold, frame_due, frame_spacing, frame_gap, first_frames};
 ghost use Rattle.std.proofs.Common.{rules};
 
-use crate::notifier::Notifier;
-use crate::severity::severity;
-use crate::shown::{Showing, Shown};
-use crate::value::value;
-use settings::accepted::Settings;
+use crate::sampler::Sampler;
+use crate::spacing::Spacing;
 
 // A hundred frames pass between samples at severity 0, and ten at 63: their number falls as the chance of a sample,
 // made regular, would rise.
@@ -20,12 +17,10 @@ const SHARE: u32 = 9;
 const GAP: u64 = 200_000;
 
 // Samples by the frames since the last sample.
+pub type Frames = Sampler<ByFrames>;
+
 #[derive(Clone, Copy)]
-pub struct Frames {
-    settings: Settings,
-    old: u32,
-    // bytes since the last sample
-    since: u32,
+pub struct ByFrames {
     // frames since the last sample
     passed: u32,
 }
@@ -38,66 +33,28 @@ fn threshold(severity: u8) -> u32
     SCALE / (LEAST_SHARE + SHARE * severity as u32)
 }
 
-impl Frames {
-    pub fn new(settings: Settings) -> Frames
-        ensures answer { result ≡ new_frames settings }
-    {
-        Frames {
-            settings,
-            old: 0,
-            since: 0,
-            passed: 0,
-        }
+impl Spacing for ByFrames {
+    ghost gap = { frame_gap };
+
+    ghost first = { first_frames };
+
+    ghost due = { frame_due };
+
+    ghost after = { frame_spacing };
+
+    ghost small = { Prim.search rules };
+
+    ghost in_time = { Prim.search rules };
+
+    fn start() -> ByFrames {
+        ByFrames { passed: 0 }
     }
 
     // Enough frames have come, or the bytes would pass the gap, which frames alone never do.
-    fn is_due(&self, severity: u8, length: u32) -> bool
-        ensures answer { result ≡ (nat_le (threshold severity) (self.entry.now.passed + 1) || nat_lt 200000 (self.entry.now.since + length)) }
-    {
-        threshold(severity) as u64 <= self.passed as u64 + 1
-            || GAP < self.since as u64 + length as u64
-    }
-}
-
-impl Notifier for Frames {
-    ghost meter = { frame_meter };
-
-    ghost samples = { frame_samples };
-
-    ghost next = { frame_next };
-
-    ghost due = { Prim.search rules };
-
-    ghost moves = { Prim.search rules };
-
-    ghost alone = { Prim.search rules };
-
-    fn show(&mut self, shown: Shown) -> Showing {
-        if !shown.is_lawful() {
-            return Showing::Unsampled;
-        }
-        let severity = severity(&self.settings, shown.pages, self.old);
-        if self.is_due(severity, shown.length) {
-            self.old = shown.pages;
-            self.since = 0;
-            self.passed = 0;
-            value(severity, false, shown.mark)
-        } else {
-            self.since += shown.length;
-            self.passed += 1;
-            Showing::Unsampled
-        }
-    }
-
-    fn set_point(&self) -> u32 {
-        self.settings.set_point()
-    }
-
-    fn weight(&self) -> u32 {
-        self.settings.weight()
-    }
-
-    fn old(&self) -> u32 {
-        self.old
+    fn count(&mut self, severity: u8, since: u32, length: u32) -> bool {
+        let due = threshold(severity) as u64 <= self.passed as u64 + 1
+            || GAP < since as u64 + length as u64;
+        self.passed = if due { 0 } else { self.passed + 1 };
+        due
     }
 }

@@ -23,15 +23,8 @@ fn covered(showing: Showing, mark: u8) -> Showing
     ensures answer { result ≡ covered mark showing }
 {
     match showing {
-        Showing::Unsampled => Showing::Unsampled,
-        Showing::Quiet => Showing::Quiet,
-        Showing::Notice(value) => {
-            if value <= mark {
-                Showing::Quiet
-            } else {
-                Showing::Notice(value)
-            }
-        }
+        Showing::Notice(value) if value <= mark => Showing::Quiet,
+        other => other,
     }
 }
 

@@ -6,27 +6,56 @@ use settings::accepted::Settings;
 // Severity has so many binary digits.
 const DIGITS: u32 = 6;
 
-fn weighted(settings: &Settings, pages: u32) -> u64
-    ensures answer { result ≡ settings.now.figures.weight * pages }
-    ensures bound { result ≤ 8 * pages }
-{
-    settings.weight() as u64 * pages as u64
+// What the queue is held against, and how it stands.
+#[derive(Clone, Copy)]
+struct Queue {
+    set_point: u32,
+    weight: u32,
+    // pages waiting, and those at the last sample
+    pages: u32,
+    old: u32,
+    ghost near: { set_point ≤ 512 },
+    ghost light: { weight ≤ 8 },
 }
 
-// What the queue has grown since the last sample, times the weight.
-fn growth(settings: &Settings, pages: u32, old: u32) -> i64
-    ensures answer { result ≡ pos (settings.now.figures.weight * pages) -ℤ pos (settings.now.figures.weight * old) }
-    ensures low { neg_ℤ (pos (8 * old)) ≤ℤ result }
-    ensures high { result ≤ℤ pos (8 * pages) }
-{
-    weighted(settings, pages) as i64 - weighted(settings, old) as i64
-}
+impl Queue {
+    fn weighted(self, pages: u32) -> u64
+        ensures answer { result ≡ self.weight * pages }
+        ensures bound { result ≤ 8 * pages }
+    {
+        self.weight as u64 * pages as u64
+    }
 
-// Fb: how far the queue is below the set point, less its weighted growth.
-fn feedback(settings: &Settings, pages: u32, old: u32) -> i64
-    ensures answer { result ≡ feedback settings.now.figures.set_point settings.now.figures.weight pages old }
-{
-    settings.set_point() as i64 - pages as i64 - growth(settings, pages, old)
+    // What the queue has grown since the last sample, times the weight.
+    fn growth(self) -> i64
+        ensures answer { result ≡ pos (self.weight * self.pages) -ℤ pos (self.weight * self.old) }
+        ensures low { neg_ℤ (pos (8 * self.old)) ≤ℤ result }
+        ensures high { result ≤ℤ pos (8 * self.pages) }
+    {
+        self.weighted(self.pages) as i64 - self.weighted(self.old) as i64
+    }
+
+    // Fb: how far the queue is below the set point, less its weighted growth.
+    fn feedback(self) -> i64
+        ensures answer { result ≡ feedback self.set_point self.weight self.pages self.old }
+    {
+        self.set_point as i64 - self.pages as i64 - self.growth()
+    }
+
+    // M, the greatest that −Fb counts for.
+    fn greatest(self) -> u32
+        ensures answer { result ≡ most self.set_point self.weight }
+        ensures bound { result ≤ 8704 }
+    {
+        self.set_point * (2 * self.weight + 1)
+    }
+
+    // −Fb, at least 0 and at most M.
+    fn clamped(self) -> u32
+        ensures answer { result ≡ clamped (most self.set_point self.weight) (feedback self.set_point self.weight self.pages self.old) }
+    {
+        (self.greatest() as u64).min(lack(self.feedback())) as u32
+    }
 }
 
 // −Fb, at least 0.
@@ -40,23 +69,8 @@ fn lack(feedback: i64) -> u64
     }
 }
 
-// M, the greatest that −Fb counts for.
-fn greatest(settings: &Settings) -> u32
-    ensures answer { result ≡ most settings.now.figures.set_point settings.now.figures.weight }
-    ensures bound { result ≤ 8704 }
-{
-    settings.set_point() * (2 * settings.weight() + 1)
-}
-
-// −Fb, at least 0 and at most M.
-fn clamped(settings: &Settings, pages: u32, old: u32) -> u32
-    ensures answer { result ≡ clamped (most settings.now.figures.set_point settings.now.figures.weight) (feedback settings.now.figures.set_point settings.now.figures.weight pages old) }
-{
-    let lack = lack(feedback(settings, pages, old));
-    (greatest(settings) as u64).min(lack) as u32
-}
-
 // The first six of M's binary digits, of a number that is at most M.
+#[tactic(auto, using(crate::proofs::Quantized::quantized_most), unfolding(crate::specs::Severity::quantized))]
 fn quantized(most: u32, n: u32) -> u8
     requires { n ≤ most }
     ensures answer { result ≡ quantized most n }
@@ -71,5 +85,11 @@ pub fn severity(settings: &Settings, pages: u32, old: u32) -> u8
     ensures answer { result ≡ severity settings.now.figures.set_point settings.now.figures.weight pages old }
     ensures bound { result ≤ 63 }
 {
-    quantized(greatest(settings), clamped(settings, pages, old))
+    let queue = Queue {
+        set_point: settings.set_point(),
+        weight: settings.weight(),
+        pages,
+        old,
+    };
+    quantized(queue.greatest(), queue.clamped())
 }

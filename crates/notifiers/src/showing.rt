@@ -1,4 +1,4 @@
-ghost use Rattle.std.specs.Prelude.{◌≡◌, ◌++◌, IfOk, OnOk};
+ghost use Rattle.std.specs.Prelude.{◌≡◌, IfOk, OnOk};
 ghost use Rattle.notifiers.specs.Published.{PublishedValues};
 ghost use Rattle.notifiers.specs.Runs.{answers, after_all, Kept};
 
@@ -6,24 +6,8 @@ use crate::notifier::Notifier;
 use crate::shown::{Showing, Shown};
 use std::alloc::{AllocError, Global};
 
-// Shows a notifier frames, and puts its answers behind those that are there.
-fn append_answers<N: Notifier>(
-    showings: &mut Vec<Showing>,
-    notifier: &mut N,
-    frames: &[Shown],
-) -> Result<(), AllocError>
-    ensures answer { OnOk result (showings.new.items ≡ showings.old.items ++ answers N.Notifier.meter N.Notifier.samples N.Notifier.next notifier.old frames.now) }
-    ensures after { OnOk result (notifier.new ≡ after_all N.Notifier.meter N.Notifier.samples N.Notifier.next notifier.old frames.now) }
-    ensures law { Kept (N.Notifier.meter notifier.old) frames.now (answers N.Notifier.meter N.Notifier.samples N.Notifier.next notifier.old frames.now) }
-    ensures published { PublishedValues }
-{
-    for frame in frames {
-        showings.push(notifier.show(*frame))?;
-    }
-    Ok(())
-}
-
 // Shows a notifier a whole list of frames, lawful or not. The law is on the answers that it gives.
+#[tactic(auto, using(crate::proofs::Values::published_values), unfolding(crate::specs::Runs::answers, crate::specs::Runs::after_all))]
 pub fn show_all<N: Notifier>(
     heap: Global,
     notifier: &mut N,
@@ -35,6 +19,8 @@ pub fn show_all<N: Notifier>(
     ensures published { PublishedValues }
 {
     let mut showings = Vec::new(heap);
-    append_answers(&mut showings, notifier, frames)?;
+    for frame in frames {
+        showings.push(notifier.show(*frame))?;
+    }
     Ok(showings)
 }

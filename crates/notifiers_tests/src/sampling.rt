@@ -7,8 +7,9 @@ use settings::accepted::Settings;
 use settings::figures::Figures;
 use std::test::Fail;
 
+// Written out, though other crates' examples have the like: the numbers below are reckoned from these eight.
 fn settings(set_point: u32, weight: u32) -> Result<Settings, Fail> {
-    let accepted = Settings::accept(Figures {
+    Settings::accept(Figures {
         line_rate: 1_000_000,
         gain: 8,
         step_a: 5_000,
@@ -17,11 +18,8 @@ fn settings(set_point: u32, weight: u32) -> Result<Settings, Fail> {
         byte_limit: 150_000,
         set_point,
         weight,
-    });
-    match accepted {
-        Ok(settings) => Ok(settings),
-        Err(_) => Err(Fail::new("the settings are refused")),
-    }
+    })
+    .map_err(|_| Fail::new("the settings are refused"))
 }
 
 // A frame that waits alone, as the last sample's did or none: below the set point, so severity 0.
