@@ -1,23 +1,19 @@
--- One step of a search.
-use Rattle.std.proofs.Common.{◌≡◌, ℕ, suc, ◌+◌, ◌-◌, ◌<◌, ◌≤◌, true, false, List, ◌∷◌, length, get_or, take, drop, Some, None, sym, ap, ◌∙◌, add-one, arith, drop-cons}
-use Rattle.std.proofs.lemmas.Bool.{cond-true, cond-false}
+-- A search that counts from a place on finds what one from the start finds, that far on.
+use Rattle.std.proofs.Common.{◌≡◌, ℕ, ◌+◌, cond, ltb, List, [], ◌∷◌, length, Some, None, Option, refl, ap, ◌∙◌, arith}
+use Rattle.std.proofs.lemmas.Iterator.Adapters.{position_from-zero}
+use Rattle.std.proofs.lemmas.Grind.{common_steps}
+use Rattle.std.specs.List.{position_from, position_or_len}
+use Rattle.std.specs.Option.{option_map}
+use Rattle.limiters.specs.declared.limiter.Identity.{Identity}
 use Rattle.limiters.specs.declared.limiter.Limiter.{Limiter}
-use Rattle.limiters.specs.declared.table.searching.Sought.{Sought}
-use Rattle.limiters.specs.Table.{fits, first_in, part}
+use Rattle.limiters.specs.Table.{fits, first_in}
 
-part_more : (i to : ℕ) (ls : List Limiter) (d : Limiter) → i < to → i < length ls → part i to ls ≡ get_or ls i d ∷ part (i + 1) to ls
-part_more i to ls d before within =
-    let one : to - i ≡ suc (to - (i + 1)) = omega arith in
-    ap (λ n. take n (drop i ls)) one ∙ ap (take (suc (to - (i + 1)))) (drop-cons ls i d within) ∙ ap (λ n. get_or ls i d ∷ take (to - (i + 1)) (drop n ls)) (sym (add-one i))
+module _ (s : Option Identity) (from : ℕ) where
+  first_from : (i j : ℕ) (xs : List Limiter) → from + i ≡ j → option_map (λ n. from + n) (position_from (fits s) i xs) ≡ first_in s j xs
+  unfolding first_in
+  first_from i j [] at = refl
+  first_from i j (x ∷ xs) at = grind (arith, common_steps, first_from (i + 1) (j + 1) xs (omega arith))
 
-pub first_here : (s : Sought) (i to : ℕ) (ls : List Limiter) (d : Limiter) → i < to → i < length ls → fits s (get_or ls i d) ≡ true → first_in s i (part i to ls) ≡ Some i
-unfolding first_in
-first_here s i to ls d before within yes' = ap (first_in s i) (part_more i to ls d before within) ∙ cond-true _ _ _ yes'
-
-pub first_on : (s : Sought) (i to : ℕ) (ls : List Limiter) (d : Limiter) → i < to → i < length ls → fits s (get_or ls i d) ≡ false → first_in s i (part i to ls) ≡ first_in s (i + 1) (part (i + 1) to ls)
-unfolding first_in
-first_on s i to ls d before within no' = ap (first_in s i) (part_more i to ls d before within) ∙ cond-false _ _ _ no'
-
-pub first_none : (s : Sought) (i to : ℕ) (ls : List Limiter) → to ≤ i → first_in s i (part i to ls) ≡ None
-unfolding first_in
-first_none s i to ls over = let none : to - i ≡ 0 = omega arith in ap (λ n. first_in s i (take n (drop i ls))) none
+  -- `position`, counted from a place on
+  pub first_found : (xs : List Limiter) (r : Option ℕ) → r ≡ cond (ltb (position_or_len (fits s) xs) (length xs)) (Some (position_or_len (fits s) xs)) None → option_map (λ n. from + n) r ≡ first_in s from xs
+  first_found xs r is = ap (option_map (λ n. from + n)) (is ∙ position_from-zero (fits s) xs) ∙ first_from 0 from xs (omega arith)

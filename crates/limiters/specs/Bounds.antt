@@ -8,11 +8,11 @@ use Rattle.limiters.specs.declared.limiter.Limiter.TheVariants.{Free, InService}
 use Rattle.limiters.specs.declared.limiter.Row.{Row}
 use Rattle.limiters.specs.Act.{heard, sent, taken}
 use Rattle.limiters.specs.Step.{full_credit, noticed}
-use Rattle.limiters.specs.Wait.{rates_of, tick, micros}
+use Rattle.limiters.specs.Wait.{tick, micros}
 
 -- A row within bounds: floor ≤ current ≤ line rate, current ≤ target ≤ the largest, credit at most full, time left from 1 to the period.
 pub record InBounds (rule : Rule) (f : Figures) (r : Row) : Type 0 where
-  pub ready : raisable rule.floor f.line_rate (rates_of r) ≡ true
+  pub ready : raisable rule.floor f.line_rate r.rates ≡ true
   pub credit_full : r.credit ≤ full_credit
   pub time_some : 1 ≤ r.time_left
   pub time_most : r.time_left ≤ f.period
@@ -25,7 +25,7 @@ Within rule f (InService r) = InBounds rule f r
 pub record HearingKeeps (rule : Rule) (f : Figures) (value : ℕ) : Type 0 where
   pub takes : (who : Identity) (l : Limiter) → Within rule f l → Within rule f (taken f who l)
   pub keeps : (l : Limiter) → Within rule f l → Within rule f (heard rule f value l)
-  pub lowers : (r : Row) → cuttable rule.floor f.line_rate r.current value ≡ true → Falls rule.floor r.current (noticed f value (rule.cut f.line_rate r.current value) r).current
+  pub lowers : (r : Row) → cuttable rule.floor f.line_rate r.rates.current value ≡ true → Falls rule.floor r.rates.current (noticed f value (rule.cut f.line_rate r.rates.current value) r).rates.current
 
 -- An accepted frame keeps it so.
 abbrev pub SendingKeeps : Rule → Figures → ℕ → Type 0
@@ -34,7 +34,7 @@ SendingKeeps rule f length = (l : Limiter) → Within rule f l → Within rule f
 -- What a limiter earns in a microsecond, its current rate at the beginning, and in so many.
 abbrev pub current_of : Limiter → ℕ
 current_of Free = 0
-current_of (InService r) = r.current
+current_of (InService r) = r.rates.current
 
 abbrev pub credit_of : Limiter → ℕ
 credit_of Free = 0

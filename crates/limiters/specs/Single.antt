@@ -1,18 +1,17 @@
 -- No flow has two limiters.
-use Rattle.std.specs.Prelude.{◌≡◌, ℕ, ◌<◌, true, List, map, length, slice_index_or}
+use Rattle.std.specs.Prelude.{◌≡◌, ℕ, ◌<◌, true, List, Some, map, length, slice_index_or}
 use Rattle.settings.specs.declared.figures.Figures.{Figures}
 use Rattle.rates.specs.Rule.{Rule}
 use Rattle.limiters.specs.declared.limiter.Identity.{Identity}
 use Rattle.limiters.specs.declared.limiter.Limiter.{Limiter}
 use Rattle.limiters.specs.declared.limiter.Limiter.TheVariants.{Free}
-use Rattle.limiters.specs.declared.table.searching.Sought.TheVariants.{Serving}
 use Rattle.limiters.specs.Place.{slots_after, sent_by}
 use Rattle.limiters.specs.Table.{fits, serving}
 use Rattle.limiters.specs.Wait.{micros}
 
 -- Two slots that serve the same are one.
 abbrev pub Single : List Limiter → Type 0
-Single ls = (who : Identity) (j k : ℕ) → j < length ls → k < length ls → fits (Serving who) (slice_index_or ls j Free) ≡ true → fits (Serving who) (slice_index_or ls k Free) ≡ true → j ≡ k
+Single ls = (who : Identity) (j k : ℕ) → j < length ls → k < length ls → fits (Some who) (slice_index_or ls j Free) ≡ true → fits (Some who) (slice_index_or ls k Free) ≡ true → j ≡ k
 
 -- A table of 64 in which no flow has two limiters stays so, whatever comes.
 pub record StaysSingle (rule : Rule) (f : Figures) : Type 0 where

@@ -24,10 +24,8 @@ risen stage = min (stage + 1) 255
 abbrev pub fresh : Figures → Identity → Row
 fresh f who = record {
   serves = who;
-  current = f.line_rate;
-  target = f.line_rate;
-  byte_stage = 0;
-  timer_stage = 0;
+  rates = record { current = f.line_rate; target = f.line_rate };
+  stages = record { byte = 0; timer = 0 };
   byte_count = 0;
   time_left = f.period;
   credit = full_credit;
@@ -42,11 +40,9 @@ held_after value held = cond (max held value == 63) 0 (max held value)
 abbrev pub noticed : Figures → ℕ → ℕ → Row → Row
 noticed f value cut r = record {
   serves = r.serves;
-  current = cut;
-  target = cond (r.byte_stage == 0) r.target r.current;
-  byte_stage = 0;
-  timer_stage = 0;
-  byte_count = cond (r.byte_stage == 0) r.byte_count 0;
+  rates = record { current = cut; target = cond (r.stages.byte == 0) r.rates.target r.rates.current };
+  stages = record { byte = 0; timer = 0 };
+  byte_count = cond (r.stages.byte == 0) r.byte_count 0;
   time_left = f.period;
   credit = r.credit;
   held = held_after value r.held;
@@ -58,13 +54,11 @@ byte_end f stage = cond (nat_lt stage 5) f.byte_limit (f.byte_limit / 2)
 
 -- An accepted frame: credit falls by its charge and the byte count grows by its length; where that runs out, the byte stage rises, the count becomes 0 and both rates are raised.
 abbrev pub charged : Figures → ℕ → Rates → Row → Row
-charged f length raised r = cond (nat_lt (byte_end f r.byte_stage) (r.byte_count + length))
+charged f length raised r = cond (nat_lt (byte_end f r.stages.byte) (r.byte_count + length))
     (record {
       serves = r.serves;
-      current = raised.current;
-      target = raised.target;
-      byte_stage = risen r.byte_stage;
-      timer_stage = r.timer_stage;
+      rates = raised;
+      stages = record { byte = risen r.stages.byte; timer = r.stages.timer };
       byte_count = 0;
       time_left = r.time_left;
       credit = r.credit - charge length;
@@ -72,10 +66,8 @@ charged f length raised r = cond (nat_lt (byte_end f r.byte_stage) (r.byte_count
     })
     (record {
       serves = r.serves;
-      current = r.current;
-      target = r.target;
-      byte_stage = r.byte_stage;
-      timer_stage = r.timer_stage;
+      rates = r.rates;
+      stages = r.stages;
       byte_count = r.byte_count + length;
       time_left = r.time_left;
       credit = r.credit - charge length;
@@ -88,18 +80,16 @@ run f stage = cond (nat_lt stage 5) f.period (f.period / 2)
 
 -- The credit after some microseconds at a rate.
 abbrev pub earned : Row → ℕ → ℕ
-earned r micros = min (r.credit + micros * r.current) full_credit
+earned r micros = min (r.credit + micros * r.rates.current) full_credit
 
 -- The timer's expiry: its stage rises, both rates are raised, and it runs again.
 abbrev pub expired : Figures → Rates → ℕ → Row → Row
 expired f raised credit r = record {
   serves = r.serves;
-  current = raised.current;
-  target = raised.target;
-  byte_stage = r.byte_stage;
-  timer_stage = risen r.timer_stage;
+  rates = raised;
+  stages = record { byte = r.stages.byte; timer = risen r.stages.timer };
   byte_count = r.byte_count;
-  time_left = run f (risen r.timer_stage);
+  time_left = run f (risen r.stages.timer);
   credit = credit;
   held = r.held;
 }
@@ -108,10 +98,8 @@ expired f raised credit r = record {
 abbrev pub passed : Row → ℕ → Row
 passed r micros = record {
   serves = r.serves;
-  current = r.current;
-  target = r.target;
-  byte_stage = r.byte_stage;
-  timer_stage = r.timer_stage;
+  rates = r.rates;
+  stages = r.stages;
   byte_count = r.byte_count;
   time_left = r.time_left - micros;
   credit = earned r micros;
@@ -129,6 +117,6 @@ stepped f (Taken who) (InService r) = InService r
 stepped f (Notice v cut) Free = Free
 stepped f (Notice v cut) (InService r) = cond (v == 0) (InService r) (InService (noticed f v cut r))
 stepped f (Frame length raised) Free = Free
-stepped f (Frame length raised) (InService r) = cond (r.current == f.line_rate) Free (InService (charged f length raised r))
+stepped f (Frame length raised) (InService r) = cond (r.rates.current == f.line_rate) Free (InService (charged f length raised r))
 stepped f (Microsecond raised) Free = Free
 stepped f (Microsecond raised) (InService r) = InService (ticked f raised r)

@@ -9,13 +9,10 @@ use Rattle.limiters.specs.declared.limiter.Limiter.TheVariants.{Free, InService}
 use Rattle.limiters.specs.declared.limiter.Row.{Row}
 use Rattle.limiters.specs.Step.{risen, stepped}
 
-abbrev pub rates_of : Row → Rates
-rates_of r = record { current = r.current; target = r.target }
-
 module _ (rule : Rule) (f : Figures) where
   -- What the rule answers when the timer expires: the stage has risen already.
   abbrev pub timer_raised : Row → Rates
-  timer_raised r = rule.raise f.line_rate (rates_of r) (record { byte = r.byte_stage; timer = risen r.timer_stage })
+  timer_raised r = rule.raise f.line_rate r.rates (record { byte = r.stages.byte; timer = risen r.stages.timer })
 
   -- One microsecond of a limiter.
   abbrev pub tick : Limiter → Limiter

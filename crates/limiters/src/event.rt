@@ -2,6 +2,7 @@ use crate::limiter::Identity;
 use rates::rates::Rates;
 
 // What can come to a limiter. The rate rule is asked before, and the event carries its answer.
+// An enum and not calls: the definition of a step is by what a limiter is and what comes.
 #[derive(Clone, Copy)]
 pub enum Event {
     Taken(Identity),

@@ -1,5 +1,7 @@
-// What a limiter serves.
-#[derive(Clone, Copy)]
+use rates::rates::{Rates, Stages};
+
+// What a limiter serves. The derive is the one place where identities are compared.
+#[derive(Clone, Copy, PartialEq, Eq, Debug)]
 pub struct Identity {
     pub flow: u32,
 }
@@ -8,12 +10,9 @@ pub struct Identity {
 #[derive(Clone, Copy)]
 pub struct Row {
     pub serves: Identity,
-    // kbit/s
-    pub current: u32,
-    pub target: u32,
-    // how often each counter has run out since the last notice; they stop at 255
-    pub byte_stage: u8,
-    pub timer_stage: u8,
+    pub rates: Rates,
+    // each stops at 255
+    pub stages: Stages,
     // bytes since the byte stage last rose
     pub byte_count: u32,
     // µs
@@ -24,6 +23,7 @@ pub struct Row {
     pub held: u8,
 }
 
+// An enum and no Option<Row>: free and in service are states with names, and a step is one match on state and event.
 #[derive(Clone, Copy)]
 pub enum Limiter {
     Free,

@@ -13,7 +13,7 @@ pub const SLOTS: usize = 64;
 // The limiters of a line, and where the search for a free one begins.
 #[derive(Clone, Copy)]
 pub struct Table {
-    slots: [Limiter; 64],
+    slots: [Limiter; SLOTS],
     cursor: usize,
     ghost long: { length slots ≡ 64 },
     ghost inside: { cursor < 64 },

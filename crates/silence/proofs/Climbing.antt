@@ -1,6 +1,7 @@
 -- A silent flow climbs to the line rate.
 use Rattle.std.proofs.Common.{◌≡◌, ℕ, zero, suc, ◌<◌, ◌≤◌, max, eqb, ◌⊎◌, List, [], ◌∷◌, ◌++◌, length, sym, refl, ap, ◌∙◌, subst, inl, inr, ⊎_elim, arith}
-use Rattle.std.proofs.lemmas.Bool.{cond-true, cond-false, cond_both, eq-eqb, ne_eqb, cases_eq}
+use Rattle.std.proofs.lemmas.Bool.{cond_both, cases_eq}
+use Rattle.std.proofs.lemmas.Grind.{common_steps}
 use Rattle.settings.specs.Ranges.{In}
 use Rattle.settings.specs.declared.figures.Figures.{Figures}
 use Rattle.settings.specs.declared.fault.SettingsFault.TheVariants.{LineRate, Period}
@@ -8,7 +9,7 @@ use Rattle.rates.specs.Rule.{Rule, Lawful}
 use Rattle.rates.specs.Conditions.{raisable_parts}
 use Rattle.limiters.specs.Bounds.{InBounds, Within}
 use Rattle.limiters.specs.Step.{earned, expired, fresh, noticed}
-use Rattle.limiters.specs.Wait.{micros, timer_raised, rates_of}
+use Rattle.limiters.specs.Wait.{micros, timer_raised}
 use Rattle.limiters.proofs.Jumps.{jump_from}
 use Rattle.limiters.proofs.Keeping.{waiting, noticed_within, fresh_within}
 use Rattle.limiters.specs.declared.limiter.Limiter.{Limiter}
@@ -24,12 +25,12 @@ module _ (rule : Rule) (f : Figures) where
   pub expiries_end : (n : ℕ) (s : Stand) → (shown s).rates.current ≡ f.line_rate → expiries rule f n s ≡ []
   unfolding expiries
   expiries_end zero s there = refl
-  expiries_end (suc n) s there = cond-true _ _ _ (eq-eqb _ _ there)
+  expiries_end (suc n) s there = grind (arith, common_steps)
 
   -- below it there is one more
   pub expiries_more : (n : ℕ) (s : Stand) → ((shown s).rates.current ≡ f.line_rate → ⊥) → expiries rule f (suc n) s ≡ shown (next_stand rule f s) ∷ expiries rule f n (next_stand rule f s)
   unfolding expiries
-  expiries_more n s below = cond-false _ _ _ (ne_eqb _ _ below)
+  expiries_more n s below = grind (arith, common_steps)
 
   pub expiries_none : (s : Stand) → expiries rule f 0 s ≡ []
   unfolding expiries
@@ -55,18 +56,18 @@ module _ (rule : Rule) (f : Figures) where
 
     next_row : (number time : ℕ) (r : Row) → InBounds rule f r → Next (record { number = number; time = time; limiter = InService r })
     next_row number time r h =
-        let parts = raisable_parts rule.floor f.line_rate (rates_of r) h.ready in
+        let parts = raisable_parts rule.floor f.line_rate r.rates h.ready in
         let whole : max r.time_left 1 ≡ r.time_left = omega (arith, h.time_some) in
         let jump : micros rule f r.time_left (InService r) ≡ InService (expired f (timer_raised rule f r) (earned r (max r.time_left 1)) r) =
         ap (λ n. micros rule f n (InService r)) (sym whole) ∙ (jump_from rule f r r.time_left refl).0 in
         let kept : Within rule f (micros rule f r.time_left (InService r)) = (waiting rule laws f period r.time_left).keeps (InService r) h in
-        let up = laws.raises f.line_rate (rates_of r) _ h.ready in
+        let up = laws.raises f.line_rate r.rates _ h.ready in
         record {
           within = subst (ServingWithin rule f) (sym jump) (subst (Within rule f) jump kept);
           later = omega (arith, h.time_some);
           soon = h.time_most;
           below = parts.in_line.to_line;
-          not_lower = subst (λ l. r.current ≤ (shown (record { number = 0; time = 0; limiter = l })).rates.current) (sym jump) up.not_lower;
+          not_lower = subst (λ l. r.rates.current ≤ (shown (record { number = 0; time = 0; limiter = l })).rates.current) (sym jump) up.not_lower;
         }
 
     next_in : (s : Stand) (l : Limiter) → s.limiter ≡ l → ServingWithin rule f l → Next s

@@ -5,7 +5,7 @@ use Rattle.rates.specs.Rule.{Rule}
 use Rattle.rates.specs.declared.rates.Rates.{Rates}
 use Rattle.limiters.specs.Act.{heard, taken}
 use Rattle.limiters.specs.Bounds.{InBounds}
-use Rattle.limiters.specs.Wait.{micros, rates_of}
+use Rattle.limiters.specs.Wait.{micros}
 use Rattle.limiters.specs.declared.limiter.Limiter.{Limiter}
 use Rattle.limiters.specs.declared.limiter.Limiter.TheVariants.{Free, InService}
 use Rattle.silence.specs.declared.expiry.Expiry.{Expiry}
@@ -14,11 +14,11 @@ use Rattle.silence.specs.declared.expiry.Stand.{Stand}
 -- What is told of a limiter: its timer stage and its rates.
 abbrev pub stage_of : Limiter → ℕ
 stage_of Free = 0
-stage_of (InService r) = r.timer_stage
+stage_of (InService r) = r.stages.timer
 
 abbrev pub both_rates : Limiter → Rates
 both_rates Free = record { current = 0; target = 0 }
-both_rates (InService r) = rates_of r
+both_rates (InService r) = r.rates
 
 abbrev pub shown : Stand → Expiry
 shown s = record { number = s.number; time = s.time; stage = stage_of s.limiter; rates = both_rates s.limiter }

@@ -6,7 +6,7 @@ ghost use Rattle.silence.specs.Stands.{shown, time_left_of, next_stand, strike_s
 use limiters::limiter::{Identity, Limiter};
 use rates::rate_rule::RateRule;
 use rates::rates::Rates;
-use settings::accepted::Settings;
+use rates::regime::Regime;
 use std::alloc::{AllocError, Global};
 
 // The most expiries that are followed.
@@ -33,65 +33,65 @@ struct Stand {
     limiter: Limiter,
 }
 
-fn shown(stand: Stand) -> Expiry
-    ensures answer { result ≡ shown stand }
-{
-    match stand.limiter {
-        Limiter::Free => Expiry {
-            number: stand.number,
-            time: stand.time,
-            stage: 0,
-            rates: Rates {
-                current: 0,
-                target: 0,
-            },
-        },
-        Limiter::InService(row) => Expiry {
-            number: stand.number,
-            time: stand.time,
-            stage: row.timer_stage,
-            rates: Rates {
-                current: row.current,
-                target: row.target,
-            },
-        },
+impl Stand {
+    // 0 for a free limiter, which is never met here.
+    fn shown(&self) -> Expiry
+        ensures answer { result ≡ shown self.now }
+    {
+        let (stage, rates) = match self.limiter {
+            Limiter::Free => (
+                0,
+                Rates {
+                    current: 0,
+                    target: 0,
+                },
+            ),
+            Limiter::InService(row) => (row.stages.timer, row.rates),
+        };
+        Expiry {
+            number: self.number,
+            time: self.time,
+            stage,
+            rates,
+        }
     }
-}
 
-fn time_left(limiter: Limiter) -> u32
-    ensures answer { result ≡ time_left_of limiter }
-{
-    match limiter {
-        Limiter::Free => 0,
-        Limiter::InService(row) => row.time_left,
+    // 0 for a free limiter, which is never met here.
+    fn time_left(&self) -> u32
+        ensures answer { result ≡ time_left_of self.now.limiter }
+    {
+        match self.limiter {
+            Limiter::Free => 0,
+            Limiter::InService(row) => row.time_left,
+        }
     }
-}
 
-// Waits for the next expiry.
-fn next<R: RateRule>(rule: &R, settings: &Settings, last: Stand) -> Stand
-    requires number { last.number < 1000 }
-    requires time { last.time ≤ 100000000 }
-    requires soon { time_left_of last.limiter ≤ 100000 }
-    ensures answer { result ≡ next_stand (R.RateRule.meaning rule.now) settings.now.figures last }
-{
-    let wait = time_left(last.limiter);
-    let mut limiter = last.limiter;
-    limiter.wait(rule, settings, wait);
-    Stand {
-        number: last.number + 1,
-        time: last.time + wait,
-        limiter,
+    // Waits for the next expiry.
+    fn next<R: RateRule>(self, regime: &Regime<R>) -> Stand
+        requires number { self.number < 1000 }
+        requires time { self.time ≤ 100000000 }
+        requires soon { time_left_of self.limiter ≤ 100000 }
+        ensures answer { result ≡ next_stand (R.RateRule.meaning regime.now.rule) regime.now.settings.figures self }
+    {
+        let wait = self.time_left();
+        let mut limiter = self.limiter;
+        limiter.wait(regime, wait);
+        Stand {
+            number: self.number + 1,
+            time: self.time + wait,
+            limiter,
+        }
     }
 }
 
 // A flow at the line rate, just after a notice of `value`: its limiter is taken, and hears it.
-fn strike<R: RateRule>(rule: &R, settings: &Settings, value: u8) -> Stand
-    ensures answer { result ≡ strike_stand (R.RateRule.meaning rule.now) settings.now.figures value }
-    ensures within { ServingWithin (R.RateRule.meaning rule.now) settings.now.figures result.limiter }
+fn strike<R: RateRule>(regime: &Regime<R>, value: u8) -> Stand
+    ensures answer { result ≡ strike_stand (R.RateRule.meaning regime.now.rule) regime.now.settings.figures value }
+    ensures within { ServingWithin (R.RateRule.meaning regime.now.rule) regime.now.settings.figures result.limiter }
 {
     let mut limiter = Limiter::Free;
-    limiter.take(settings, Identity { flow: FLOW });
-    limiter.hear(rule, settings, value);
+    limiter.take(&regime.settings, Identity { flow: FLOW });
+    limiter.hear(regime, value);
     Stand {
         number: 0,
         time: 0,
@@ -110,29 +110,28 @@ pub struct Recovery {
 // The expiries after `start`.
 fn follow<R: RateRule>(
     heap: Global,
-    rule: &R,
-    settings: &Settings,
+    regime: &Regime<R>,
     start: Stand,
 ) -> Result<Recovery, AllocError>
     requires number { start.number ≡ 0 }
     requires time { start.time ≡ 0 }
-    requires within { ServingWithin (R.RateRule.meaning rule.now) settings.now.figures start.limiter }
-    ensures answer { IfOk result (Follows (R.RateRule.meaning rule.now) settings.now.figures start) }
-    ensures law { IfOk result (λ v. ClimbsBack settings.now.figures.line_rate v.start v.rows.items) }
+    requires within { ServingWithin (R.RateRule.meaning regime.now.rule) regime.now.settings.figures start.limiter }
+    ensures answer { IfOk result (Follows (R.RateRule.meaning regime.now.rule) regime.now.settings.figures start) }
+    ensures law { IfOk result (λ v. ClimbsBack regime.now.settings.figures.line_rate v.start v.rows.items) }
 {
     let mut rows = Vec::new(heap);
     let mut stand = start;
-    let mut end = shown(start);
+    let mut end = start.shown();
     for _ in 0..MOST_EXPIRIES {
-        if end.rates.current == settings.line_rate() {
+        if end.rates.current == regime.settings.line_rate() {
             break;
         }
-        stand = next(rule, settings, stand);
-        end = shown(stand);
+        stand = stand.next(regime);
+        end = stand.shown();
         rows.push(end)?;
     }
     Ok(Recovery {
-        start: shown(start),
+        start: start.shown(),
         rows,
         end,
     })
@@ -141,13 +140,11 @@ fn follow<R: RateRule>(
 // What follows a notice of `value` to a flow at the line rate that then stays silent.
 pub fn recover<R: RateRule>(
     heap: Global,
-    rule: &R,
-    settings: &Settings,
+    regime: &Regime<R>,
     value: u8,
 ) -> Result<Recovery, AllocError>
-    ensures answer { IfOk result (Recovered (R.RateRule.meaning rule.now) settings.now.figures value) }
-    ensures law { IfOk result (λ v. ClimbsBack settings.now.figures.line_rate v.start v.rows.items) }
+    ensures answer { IfOk result (Recovered (R.RateRule.meaning regime.now.rule) regime.now.settings.figures value) }
+    ensures law { IfOk result (λ v. ClimbsBack regime.now.settings.figures.line_rate v.start v.rows.items) }
 {
-    let way = follow(heap, rule, settings, strike(rule, settings, value))?;
-    Ok(way)
+    follow(heap, regime, strike(regime, value))
 }

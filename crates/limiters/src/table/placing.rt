@@ -1,6 +1,5 @@
-ghost use Rattle.std.specs.Prelude.{◌≡◌, ◌<◌, replicate, slice_index_or, slice_set};
-ghost use Rattle.limiters.specs.Act.{heard, sent, taken};
-ghost use Rattle.limiters.specs.Place.{placed, slots_after, cursor_after, next_cursor, sent_by};
+ghost use Rattle.std.specs.Prelude.{◌≡◌, replicate, slice_index_or, slice_set};
+ghost use Rattle.limiters.specs.Place.{placed, slots_after, cursor_after, sent_by};
 ghost use Rattle.limiters.specs.Step.{stepped};
 ghost use Rattle.limiters.specs.Table.{serving};
 ghost use Rattle.limiters.specs.declared.limiter.Limiter.TheVariants.{Free};
@@ -9,6 +8,7 @@ use crate::event::Event;
 use crate::limiter::{Identity, Limiter};
 use crate::table::{SLOTS, Table};
 use rates::rate_rule::RateRule;
+use rates::regime::Regime;
 use settings::accepted::Settings;
 
 impl Table {
@@ -18,74 +18,40 @@ impl Table {
         ensures cursor { result.cursor ≡ 0 }
     {
         Table {
-            slots: [Limiter::Free; 64],
+            slots: [Limiter::Free; SLOTS],
             cursor: 0,
         }
-    }
-
-    // One slot's notice.
-    fn hear_at<R: RateRule>(&mut self, rule: &R, settings: &Settings, slot: usize, value: u8)
-        requires { slot < 64 }
-        ensures slots { self.new.slots ≡ slice_set self.old.slots slot (heard (R.RateRule.meaning rule.now) settings.now.figures value (slice_index_or self.old.slots slot Free)) }
-        ensures cursor { self.new.cursor ≡ self.old.cursor }
-    {
-        self.slots[slot].hear(rule, settings, value);
-    }
-
-    // One slot's accepted frame.
-    fn send_at<R: RateRule>(&mut self, rule: &R, settings: &Settings, slot: usize, length: u32)
-        requires { slot < 64 }
-        ensures slots { self.new.slots ≡ slice_set self.old.slots slot (sent (R.RateRule.meaning rule.now) settings.now.figures length (slice_index_or self.old.slots slot Free)) }
-        ensures cursor { self.new.cursor ≡ self.old.cursor }
-    {
-        self.slots[slot].send(rule, settings, length);
-    }
-
-    // Takes a free slot; the cursor then stands one past it.
-    fn take_at(&mut self, settings: &Settings, slot: usize, who: Identity)
-        requires { slot < 64 }
-        ensures slots { self.new.slots ≡ slice_set self.old.slots slot (taken settings.now.figures who (slice_index_or self.old.slots slot Free)) }
-        ensures cursor { self.new.cursor ≡ next_cursor slot }
-    {
-        self.slots[slot].take(settings, who);
-        self.cursor = if slot + 1 < SLOTS { slot + 1 } else { 0 };
     }
 
     // A notice: to the slot that serves, or to a free one that is taken for it. None where it is unplaced.
     pub fn notice<R: RateRule>(
         &mut self,
-        rule: &R,
-        settings: &Settings,
+        regime: &Regime<R>,
         who: Identity,
         value: u8,
     ) -> Option<usize>
         ensures answer { result ≡ placed who self.old.cursor self.old.slots }
-        ensures slots { self.new.slots ≡ slots_after (R.RateRule.meaning rule.now) settings.now.figures who value self.old.cursor self.old.slots }
-        ensures cursor { self.new.cursor ≡ cursor_after (R.RateRule.meaning rule.now) settings.now.figures who value self.old.cursor self.old.slots }
+        ensures slots { self.new.slots ≡ slots_after (R.RateRule.meaning regime.now.rule) regime.now.settings.figures who value self.old.cursor self.old.slots }
+        ensures cursor { self.new.cursor ≡ cursor_after (R.RateRule.meaning regime.now.rule) regime.now.settings.figures who value self.old.cursor self.old.slots }
     {
-        match self.serving(who) {
-            Some(slot) => {
-                self.hear_at(rule, settings, slot, value);
-                Some(slot)
-            }
-            None => match self.free() {
-                Some(slot) => {
-                    self.take_at(settings, slot, who);
-                    self.hear_at(rule, settings, slot, value);
-                    Some(slot)
-                }
-                None => None,
-            },
+        if let Some(slot) = self.serving(who) {
+            self.slots[slot].hear(regime, value);
+            return Some(slot);
         }
+        let slot = self.free()?;
+        self.slots[slot].take(&regime.settings, who);
+        self.slots[slot].hear(regime, value);
+        self.cursor = (slot + 1) % SLOTS;
+        Some(slot)
     }
 
     // An accepted frame, charged to its limiter if it has one.
-    pub fn send<R: RateRule>(&mut self, rule: &R, settings: &Settings, who: Identity, length: u32)
-        ensures slots { self.new.slots ≡ sent_by (R.RateRule.meaning rule.now) settings.now.figures length self.old.slots (serving who self.old.slots) }
+    pub fn send<R: RateRule>(&mut self, regime: &Regime<R>, who: Identity, length: u32)
+        ensures slots { self.new.slots ≡ sent_by (R.RateRule.meaning regime.now.rule) regime.now.settings.figures length self.old.slots (serving who self.old.slots) }
         ensures cursor { self.new.cursor ≡ self.old.cursor }
     {
         if let Some(slot) = self.serving(who) {
-            self.send_at(rule, settings, slot, length);
+            self.slots[slot].send(regime, length);
         }
     }
 
@@ -94,19 +60,23 @@ impl Table {
         ensures slots { self.new.slots ≡ slice_set self.old.slots slot (stepped settings.now.figures event (slice_index_or self.old.slots slot Free)) }
         ensures cursor { self.new.cursor ≡ self.old.cursor }
     {
+        // Not `get_mut`: nothing is known of the slots after it.
         if slot < SLOTS {
             self.slots[slot].step(settings, event);
         }
+    }
+
+    // The slots in order.
+    pub fn slots(&self) -> &[Limiter]
+        ensures answer { result.now ≡ self.now.slots }
+    {
+        &self.slots
     }
 
     // A slot's limiter, and a free one past the last.
     pub fn limiter(&self, place: usize) -> Limiter
         ensures answer { result ≡ slice_index_or self.now.slots place Free }
     {
-        if place < SLOTS {
-            self.slots[place]
-        } else {
-            Limiter::Free
-        }
+        self.slots.get(place).copied().unwrap_or(Limiter::Free)
     }
 }

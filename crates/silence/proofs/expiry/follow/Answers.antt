@@ -1,43 +1,16 @@
 use Rattle.std.proofs.Common.{◌≡◌, suc, ◌+◌, ◌-◌, [], ◌∷◌, ◌++◌, is_ok, vec_items, sym, ap, ◌∙◌, subst, append_assoc, append-nil, arith}
 use Rattle.std.proofs.ResultArms.{chosen}
-use Rattle.std.proofs.lemmas.Result.{IfOk-from_err}
 use Rattle.silence.specs.Expiries.{bound, expiries, last, ClimbsBack}
 use Rattle.silence.specs.Stands.{shown, next_stand, ServingWithin}
 use Rattle.silence.proofs.Climbing.{expiries_end, expiries_more, expiries_none, last_push, climbs_back, step_within, step_soon}
 use Rattle.silence.proofs.expiry.follow.Goals as goal
 use Rattle.silence.proofs.expiry.follow.Goals.{else-loop-test, then-loop-test+then-end-line_rate}
 
-pub loop-init : goal.loop-init
-loop-init g c =
-    let rule = g.R.RateRule.meaning c.args.rule.now in
-    let f = c.args.settings.now.figures in
-    let none = c.new-rows.ensures.items in (
-      ap (λ l. l ++ expiries rule f bound c.args.start) none,
-      c.shown-end.ensures.answer ∙ sym (ap (last (shown c.args.start)) none),
-      c.shown-end.ensures.answer,
-      c.requires.number,
-      omega (arith, c.requires.time),
-      c.requires.within,
-    )
-
-pub next-stand-requires : goal.next-stand-requires
-next-stand-requires g c =
-    let set = c.args.settings.now in
-    let soon = step_soon (g.R.RateRule.meaning c.args.rule.now) set.figures (g.met.R.RateRule.lawful c.args.rule.now) set.line_rate_in set.period_in c.loop.stand c.loop.invariant.5 in
-    record {
-      number = omega (arith, c.loop.invariant.3);
-      time = omega (arith, c.loop.invariant.4);
-      soon = omega (arith, soon, set.period_in.1);
-    }
-
-pub returns-in_err-push : goal.returns-in_err-push
-returns-in_err-push g c = let no_memory = c.from_residual.ensures.0 in record { answer = IfOk-from_err _ _ no_memory; law = IfOk-from_err _ _ no_memory }
-
 pub loop-preserved : goal.loop-preserved
 loop-preserved g c =
-    let rule = g.R.RateRule.meaning c.args.rule.now in
-    let laws = g.met.R.RateRule.lawful c.args.rule.now in
-    let set = c.args.settings.now in
+    let rule = g.R.RateRule.meaning c.args.regime.now.rule in
+    let laws = g.met.R.RateRule.lawful c.args.regime.now.rule in
+    let set = c.args.regime.now.settings in
     let f = set.figures in
     let rows = vec_items c.loop.rows in
     let row = c.shown-end-in-loop.result in
@@ -62,8 +35,8 @@ loop-preserved g c =
 
 pub returns : goal.returns
 returns g c =
-    let rule = g.R.RateRule.meaning c.args.rule.now in
-    let set = c.args.settings.now in
+    let rule = g.R.RateRule.meaning c.args.regime.now.rule in
+    let set = c.args.regime.now.settings in
     let left = expiries rule set.figures (bound - c.loop.counter) c.loop.stand in
     let done : left ≡ [] =
     elim c.loop-test.branch [
@@ -74,7 +47,7 @@ returns g c =
           expiries_end rule set.figures (bound - c.loop.counter) c.loop.stand (sym (ap (λ x. x.rates.current) c.loop.invariant.2) ∙ w.if-end-line_rate.true ∙ w.line_rate.ensures.answer)
     ] in
     let all : vec_items c.loop.rows ≡ expiries rule set.figures bound c.args.start = sym (append-nil _) ∙ ap (λ l. vec_items c.loop.rows ++ l) (sym done) ∙ c.loop.invariant.0 in
-    let law = climbs_back rule set.figures (g.met.R.RateRule.lawful c.args.rule.now) set.line_rate_in set.period_in c.args.start (vec_items c.loop.rows) c.requires.within all in
+    let law = climbs_back rule set.figures (g.met.R.RateRule.lawful c.args.regime.now.rule) set.line_rate_in set.period_in c.args.start (vec_items c.loop.rows) c.requires.within all in
     record {
       answer = record { start = c.shown.ensures.answer; rows = all; end = c.loop.invariant.1 };
       law = subst (λ s. ClimbsBack set.figures.line_rate s (vec_items c.loop.rows)) (sym c.shown.ensures.answer) law;

@@ -6,8 +6,8 @@ use Rattle.silence.proofs.expiry.follow.Given as goal
 -- the rows so far, and what is still to come, are all that follow
 abbrev pub invariant-loop : goal.invariant-loop
 invariant-loop g l =
-    let rule = g.R.RateRule.meaning l.rule in
-    let f = l.settings.figures in
+    let rule = g.R.RateRule.meaning l.regime.rule in
+    let f = l.regime.settings.figures in
     (vec_items l.rows ++ expiries rule f (bound - l.counter) l.stand ≡ expiries rule f bound l.start)
     × (l.end ≡ last (shown l.start) (vec_items l.rows))
     × (l.end ≡ shown l.stand)
