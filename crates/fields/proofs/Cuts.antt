@@ -1,53 +1,49 @@
-use Rattle.std.proofs.Common.{◌≡◌, ℕ, zero, suc, ◌<◌, ◌≤◌, List, [], ◌∷◌, ◌++◌, length, get_or, take, drop, sym, refl, ap, ◌∙◌, inl, inr, add-one, arith}
-use Rattle.std.proofs.lemmas.List.{length-take, get_or-take}
-use Rattle.std.proofs.lemmas.Bool.{ne_eqb, eq-eqb}
+use Rattle.std.proofs.Common.{◌≡◌, ◌≢◌, ℕ, ◌+◌, ◌<◌, ◌≤◌, eqb, List, [], ◌∷◌, ◌++◌, length, get_or, take, drop, Option, sym, refl, ap, ◌∙◌, subst, inl, inr, arith}
+use Rattle.std.specs.List.{position, position_or_len}
+use Rattle.std.proofs.lemmas.Bool.{cases_lt, cond-true, cond-false, lt-ltb, le-ltb, eqb-true, eq-eqb, true≢false}
 use Rattle.std.proofs.lemmas.Bool.Decides.{eqb_tells}
-use Rattle.fields.specs.Parts.{parts, begun, Free}
-use Rattle.fields.specs.Separators.{Stands, Lacks}
+use Rattle.std.proofs.lemmas.List.{length-take, get_or-take}
+use Rattle.std.proofs.lemmas.List.Splits.{slice_split_none, slice_split_first}
+use Rattle.std.proofs.lemmas.List.Sums.{split_at_first, fails_before_first, passes_at_first}
+use Rattle.fields.proofs.Splits.{slice_split-parts}
+use Rattle.fields.specs.Parts.{parts}
+use Rattle.fields.specs.Separators.{Stands, Lacks, First}
 
--- No separator stands below n.
-abbrev pub Clear : ℕ → List ℕ → ℕ → Type 0
-Clear s xs n = (k : ℕ) → k < n → get_or xs k 0 ≡ s → ⊥
+-- Where the first separator stands, or the length where there is none.
+abbrev first : ℕ → List ℕ → ℕ
+first s xs = position_or_len (λ b. eqb b s) xs
 
--- What holds of a list's first places holds of its tail's.
-tail_clear : (s x : ℕ) (xs : List ℕ) (n : ℕ) → Clear s (x ∷ xs) (suc n) → Clear s xs n
-tail_clear s x xs n c k h = c (suc k) (omega arith)
+-- No separator stands before the first.
+clear_before : (s : ℕ) (xs : List ℕ) (k : ℕ) → k < first s xs → get_or xs k 0 ≢ s
+clear_before s xs k h q = true≢false (sym (eq-eqb _ _ q) ∙ fails_before_first (λ b. eqb b s) xs k 0 h)
 
--- A text with no separator is one part.
-one_part : (s : ℕ) (xs : List ℕ) → Clear s xs (length xs) → parts s xs ≡ xs ∷ []
-one_part s [] c = refl
-one_part s (x ∷ xs) c =
-    rw (ne_eqb x s (c 0 (omega arith))) (ap (begun x) (one_part s xs (tail_clear s x xs (length xs) c)))
+stands : (s : ℕ) (xs : List ℕ) → first s xs < length xs → Stands s xs (first s xs)
+stands s xs h =
+    let n = first s xs in
+    let separator : get_or xs n 0 ≡ s = eqb-true _ _ (passes_at_first (λ b. eqb b s) xs 0 h) in
+    record {
+      within = h;
+      free = λ k l q. let m : k < n = omega (arith, length-take n xs) in clear_before s xs k m (sym (get_or-take n xs k 0 m) ∙ q);
+      joins = split_at_first (λ b. eqb b s) xs 0 h ∙ ap (λ x. take n xs ++ (x ∷ drop (n + 1) xs)) separator;
+      cuts =
+          sym (slice_split-parts s xs)
+          ∙ slice_split_first (λ b. eqb b s) xs 0 h
+          ∙ ap (λ ps. take n xs ∷ ps) (slice_split-parts s (drop (n + 1) xs));
+    }
 
--- The text and its parts, where the first separator stands at n.
-cut_parts :
-    (s : ℕ) (xs : List ℕ) (n : ℕ) → n < length xs → Clear s xs n → get_or xs n 0 ≡ s
-    → parts s xs ≡ take n xs ∷ parts s (drop (suc n) xs)
-cut_parts s [] n h c e = absurd (omega arith)
-cut_parts s (x ∷ xs) zero h c e = rw (eq-eqb x s e) refl
-cut_parts s (x ∷ xs) (suc n) h c e =
-    rw (ne_eqb x s (c 0 (omega arith)))
-    (ap (begun x) (cut_parts s xs n (omega arith) (tail_clear s x xs n c) e))
-
-cut_text :
-    (s : ℕ) (xs : List ℕ) (n : ℕ) → n < length xs → get_or xs n 0 ≡ s
-    → xs ≡ take n xs ++ (s ∷ drop (suc n) xs)
-cut_text s [] n h e = absurd (omega arith)
-cut_text s (x ∷ xs) zero h e = ap (λ y. y ∷ xs) e
-cut_text s (x ∷ xs) (suc n) h e = ap (λ ys. x ∷ ys) (cut_text s xs n (omega arith) e)
-
--- What the search knows where it stops: at a separator, or behind the last byte.
-pub found_at : (s : ℕ) (xs : List ℕ) (n : ℕ) → n < length xs → Clear s xs n → get_or xs n 0 ≡ s → Stands s xs n
-found_at s xs n h c e = record {
-  within = h;
-  free = λ k l q. let m : k < n = omega (arith, length-take n xs) in c k m (sym (get_or-take n xs k 0 m) ∙ q);
-  joins = rw add-one (cut_text s xs n h e);
-  cuts = rw add-one (cut_parts s xs n h c e);
+lacks : (s : ℕ) (xs : List ℕ) → length xs ≤ first s xs → Lacks s xs
+lacks s xs h = record {
+  free = λ k l. clear_before s xs k (omega arith);
+  whole = sym (slice_split-parts s xs) ∙ slice_split_none (λ b. eqb b s) xs (λ k d l. fails_before_first (λ b. eqb b s) xs k d (omega arith));
 }
 
-pub found_nowhere : (s : ℕ) (xs : List ℕ) (n : ℕ) → length xs ≤ n → Clear s xs n → Lacks s xs
-found_nowhere s xs n h c =
-    let free : Free s xs = λ k l. c k (omega arith) in record { free = free; whole = one_part s xs free }
+-- What the library's search finds: the first separator, or none.
+pub First-position : (s : ℕ) (xs : List ℕ) (found : Option ℕ) → found ≡ position (λ b. eqb b s) xs → First s xs found
+First-position s xs found e =
+    elim (cases_lt (first s xs) (length xs)) [
+      | inl h ↦ subst (First s xs) (sym (e ∙ cond-true _ _ _ (lt-ltb _ _ h))) (stands s xs h)
+      | inr h ↦ subst (First s xs) (sym (e ∙ cond-false _ _ _ (le-ltb _ _ h))) (lacks s xs h)
+    ]
 
 -- Every text has a first part.
 pub parts_some : (s : ℕ) (xs : List ℕ) → (p : List ℕ) × (ps : List (List ℕ)) × (parts s xs ≡ p ∷ ps)

@@ -1,3 +1,4 @@
-pub mod Cuts
-mod Weights
 mod Bytes
+pub mod Cuts
+pub mod Splits
+mod Weights

@@ -1,7 +1,8 @@
 use Rattle.std.specs.Prelude.{◌≡◌, ℕ, ◌+◌, ◌-◌, ◌*◌, ◌≤◌, true, cond, ◌&&◌, List, [], ◌∷◌, length, is_some, Some, None, Ok, Err, vec_items, Option, Result, nat_le}
 use Rattle.std.specs.Global.{Vec}
-use Rattle.fields.specs.declared.hexadecimals.HexFault.{HexFault}
-use Rattle.fields.specs.declared.hexadecimals.HexFault.TheVariants.{Digits, Memory}
+use Rattle.fields.specs.declared.failure.Failure.{Failure}
+use Rattle.fields.specs.declared.failure.Failure.TheVariants.{Refused, Memory}
+use Rattle.fields.specs.declared.hexadecimals.NoDigits.{NoDigits}
 use Rattle.fields.specs.Pairs.{paired}
 
 -- The value of a hexadecimal digit: '0' to '9' are 48 to 57, 'a' to 'f' are 97 to 102, 'A' to 'F' are 65 to 70.
@@ -21,9 +22,9 @@ hex_of [] = Some []
 hex_of (c ∷ []) = None
 hex_of (high ∷ (low ∷ cs)) = paired ◌∷◌ (byte_of high low) (hex_of cs)
 
--- What reading digits may answer: the bytes that they write; Digits just where they write none; Memory only where
+-- What reading digits may answer: the bytes that they write; a refusal just where they write none; Memory only where
 -- they write at least one byte.
-abbrev pub Written : List ℕ → Result (Vec ℕ) HexFault → Type 0
+abbrev pub Written : List ℕ → Result (Vec ℕ) (Failure NoDigits) → Type 0
 Written cs (Ok v) = hex_of cs ≡ Some (vec_items v)
-Written cs (Err Digits) = hex_of cs ≡ None
+Written cs (Err (Refused f)) = hex_of cs ≡ None
 Written cs (Err Memory) = (is_some (hex_of cs) ≡ true) × (2 ≤ length cs)

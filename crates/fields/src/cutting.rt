@@ -13,12 +13,7 @@ pub struct Piece<'a> {
 fn first_separator(text: &[u8], separator: u8) -> Option<usize>
     ensures answer { First separator text.now result }
 {
-    for (i, byte) in text.iter().enumerate() {
-        if *byte == separator {
-            return Some(i);
-        }
-    }
-    None
+    text.iter().position(|byte| *byte == separator)
 }
 
 // Takes the first field off a text. Two separators in a row have an empty field between them, and an
@@ -30,14 +25,10 @@ pub fn cut(text: &[u8], separator: u8) -> Piece<'_>
     ensures shorter { remaining result.rest ≤ length text.now }
 {
     match first_separator(text, separator) {
-        Some(end) => {
-            let (field, _) = text.split_at(end);
-            let (_, rest) = text.split_at(end + 1);
-            Piece {
-                field,
-                rest: Some(rest),
-            }
-        }
+        Some(end) => Piece {
+            field: &text[..end],
+            rest: Some(&text[end + 1..]),
+        },
         None => Piece {
             field: text,
             rest: None,

@@ -8,16 +8,14 @@ const MOST_DIGITS: usize = 10;
 
 const BASE: u64 = 10;
 
-fn decimal_digit(c: u8) -> Option<u8>
+fn decimal_digit(c: u8) -> Option<u32>
     ensures answer { result ≡ digit_of c }
 {
-    match c {
-        b'0'..=b'9' => Some(c - b'0'),
-        _ => None,
-    }
+    char::from(c).to_digit(10)
 }
 
-// The number that few enough digits write: ten stay below 10 ^ 10, far within a u64.
+// The number that few enough digits write: ten stay below 10 ^ 10, far within a u64. A `for`, since the closure of a
+// `try_fold` does not know that the sum so far is as small.
 fn number(digits: &[u8]) -> Option<u64>
     requires { length digits.now ≤ 10 }
     ensures answer { result ≡ option_map number_of (digits_of digits.now) }
@@ -29,7 +27,8 @@ fn number(digits: &[u8]) -> Option<u64>
     Some(sum)
 }
 
-// The number that 1 to 10 digits write, where it is at most 4,294,967,295.
+// The number that 1 to 10 digits write, where it is at most 4,294,967,295. `parse` would take a sign too, and more
+// digits than ten where zeros come first.
 pub fn decimal(digits: &[u8]) -> Option<u32>
     ensures answer { result ≡ decimal_of digits.now }
 {

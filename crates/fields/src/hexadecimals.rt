@@ -1,32 +1,19 @@
 // Bytes, as a field writes them: two hexadecimal digits for each.
 ghost use Rattle.fields.specs.Hexadecimals.{hex_digit_of, byte_of, hex_of, Written};
-ghost use Rattle.fields.specs.declared.hexadecimals.HexFault.TheVariants.{Memory};
 ghost use Rattle.std.specs.Prelude.{◌≡◌, true, is_some};
 
-use std::alloc::{AllocFailed, Global};
+use crate::failure::Failure;
+use std::alloc::Global;
 
 const BASE: u8 = 16;
 
 const DIGITS_OF_A_BYTE: usize = 2;
 
-// Why digits gave no bytes.
+// The digits write no bytes: they are odd in number, or one is no hexadecimal digit.
 #[derive(Clone, Copy, PartialEq, Eq, Debug, Drop)]
-pub enum HexFault {
-    // The digits are odd in number, or one is no hexadecimal digit.
-    Digits,
-    // There was no memory for the bytes.
-    Memory,
-}
+pub struct NoDigits;
 
-impl<T: Drop> From<AllocFailed<T>> for HexFault {
-    ghost from_gives = { λ _ r. r ≡ Memory };
-
-    fn from(_: AllocFailed<T>) -> HexFault {
-        HexFault::Memory
-    }
-}
-
-// The value of a hexadecimal digit, in either case.
+// The value of a hexadecimal digit, in either case. It is a u8, as the byte that it is part of; `to_digit` gives a u32.
 pub fn hex_digit(c: u8) -> Option<u8>
     ensures answer { result ≡ hex_digit_of c }
 {
@@ -48,16 +35,11 @@ fn hex_byte(high: u8, low: u8) -> Option<u8>
 pub fn are_hex(digits: &[u8]) -> bool
     ensures answer { result ≡ is_some (hex_of digits.now) }
 {
-    for c in digits {
-        if hex_digit(*c).is_none() {
-            return false;
-        }
-    }
-    digits.len() % DIGITS_OF_A_BYTE == 0
+    digits.len() % DIGITS_OF_A_BYTE == 0 && digits.iter().all(|c| hex_digit(*c).is_some())
 }
 
-// The bytes of digits that were judged.
-fn read_pairs(heap: Global, digits: &[u8]) -> Result<Vec<u8>, HexFault>
+// The bytes of digits that were judged. The pattern names the two digits of a byte, which a chunk of two would index.
+fn read_pairs(heap: Global, digits: &[u8]) -> Result<Vec<u8>, Failure<NoDigits>>
     requires { is_some (hex_of digits.now) ≡ true }
     ensures answer { Written digits.now result }
 {
@@ -75,11 +57,11 @@ fn read_pairs(heap: Global, digits: &[u8]) -> Result<Vec<u8>, HexFault>
 
 // The bytes that digits write, two to a byte and the higher digit first. No digits give no bytes. The digits
 // are judged before memory is asked for, so that no fault of theirs is taken for want of memory.
-pub fn hex_bytes(heap: Global, digits: &[u8]) -> Result<Vec<u8>, HexFault>
+pub fn hex_bytes(heap: Global, digits: &[u8]) -> Result<Vec<u8>, Failure<NoDigits>>
     ensures answer { Written digits.now result }
 {
     if !are_hex(digits) {
-        return Err(HexFault::Digits);
+        return Err(Failure::Refused(NoDigits));
     }
     read_pairs(heap, digits)
 }

@@ -1,17 +1,16 @@
 // Reading a line of text, as bytes: its fields, and the numbers that a field writes.
-// `cutting` takes one field off a text, `decimals` reads a decimal number, `hexadecimals` reads bytes
-// that are written as hexadecimal digits, `splitting` takes a line apart into all its fields, and `places` finds
-// one of them.
+// `cutting` takes one field off a text, `line` has all fields of one, `decimals` reads a decimal number,
+// `hexadecimals` reads bytes that are written as hexadecimal digits, and `failure` is why a call gave nothing.
 #![tactic(auto)]
 
 mod cutting;
 mod decimals;
+mod failure;
 mod hexadecimals;
-mod places;
-mod splitting;
+mod line;
 
 pub use cutting::{Piece, cut};
 pub use decimals::decimal;
-pub use hexadecimals::{HexFault, are_hex, hex_bytes, hex_digit};
-pub use places::{field_at, field_count};
-pub use splitting::split;
+pub use failure::Failure;
+pub use hexadecimals::{NoDigits, are_hex, hex_bytes, hex_digit};
+pub use line::{Fields, split};
