@@ -1,5 +1,5 @@
 -- What a refused question is answered with.
-use Rattle.std.specs.Prelude.{ℕ, List, codes}
+use Rattle.std.specs.Prelude.{ℕ, List, ◌++◌, codes, decimal}
 use Rattle.record.specs.declared.faults.ReadFault.{ReadFault}
 use Rattle.record.specs.declared.faults.ReadFault.TheVariants.{Length, Version, Count, Value}
 use Rattle.record.specs.Refusals.{read_number}
@@ -61,3 +61,7 @@ complaint Letter = codes "is not the letter of a rate rule, q or g"
 complaint (Settings s) = range_complaint s
 complaint Digits = codes "is not hexadecimal digits, two to a byte"
 complaint (Record f) = record_complaint f
+
+-- A refusal in words: its number, what is at fault, and what is wrong with it.
+abbrev pub refusal_words : Refusal → List ℕ
+refusal_words e = codes "refused " ++ (decimal (refusal_number e) ++ (codes ": " ++ (subject e ++ (codes " " ++ complaint e))))

@@ -1,8 +1,10 @@
-ghost use Rattle.std.specs.Prelude.{◌≡◌};
-ghost use Rattle.question.specs.Refusals.{refusal_number, subject, complaint, setting_name, range_complaint, record_complaint};
+ghost use Rattle.std.specs.Prelude.{◌≡◌, Some};
+ghost use Rattle.question.specs.Refusals.{refusal_number, subject, complaint, setting_name, range_complaint, record_complaint, refusal_words};
+ghost use Rattle.question.specs.declared.refusal.Refusal.TheVariants.{Settings, Record};
 
 use record::ReadFault;
 use settings::fault::SettingsFault;
+use std::fmt;
 
 // Why a question is refused.
 #[derive(Clone, Copy)]
@@ -59,6 +61,33 @@ impl Refusal {
             Refusal::Digits => "is not hexadecimal digits, two to a byte",
             Refusal::Record(fault) => record_complaint(fault),
         }
+    }
+}
+
+impl fmt::Display for Refusal {
+    ghost output = { λ refusal. Some (refusal_words refusal) };
+
+    fn fmt<W: fmt::Write>(&self, f: &mut fmt::Formatter<W>) -> fmt::Result {
+        let number = self.number();
+        let subject = self.subject();
+        let complaint = self.complaint();
+        write!(f, "refused {number}: {subject} {complaint}")
+    }
+}
+
+impl From<SettingsFault> for Refusal {
+    ghost from_gives = { λ why r. r ≡ Settings why };
+
+    fn from(why: SettingsFault) -> Refusal {
+        Refusal::Settings(why)
+    }
+}
+
+impl From<ReadFault> for Refusal {
+    ghost from_gives = { λ why r. r ≡ Record why };
+
+    fn from(why: ReadFault) -> Refusal {
+        Refusal::Record(why)
     }
 }
 
