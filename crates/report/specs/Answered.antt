@@ -1,12 +1,12 @@
 -- What the program prints.
-use Rattle.std.specs.Prelude.{ℕ, cond, List, ◌++◌, Ok, Err, codes, decimal, Result, ◌==◌}
+use Rattle.std.specs.Prelude.{ℕ, cond, List, ◌++◌, Ok, Err, codes, Result, ◌==◌}
 use Rattle.rates.specs.Rule.{Rule}
 use Rattle.rates.specs.Chosen.{meant_by}
 use Rattle.record.specs.declared.Record.{Record}
 use Rattle.settings.specs.declared.figures.Figures.{Figures}
 use Rattle.question.specs.Asked.{Asked, asked}
 use Rattle.silence.specs.Expiries.{struck, recovery, last}
-use Rattle.question.specs.Refusals.{refusal_number, subject, complaint}
+use Rattle.question.specs.Refusals.{refusal_words}
 use Rattle.report.specs.Text.{record_text, way_said, ignored_text}
 use Rattle.question.specs.declared.refusal.Refusal.{Refusal}
 
@@ -22,12 +22,9 @@ effect_text rule f value = cond (value == 0) ignored_text (recovery_text rule f 
 abbrev pub report_text : Rule → Figures → Record → List ℕ
 report_text rule f r = record_text r ++ effect_text rule f r.value
 
--- A refusal: its number, and what is wrong in words.
-abbrev pub refusal_line : ℕ → List ℕ → List ℕ → List ℕ
-refusal_line number what why = codes "refused " ++ (decimal number ++ (codes ": " ++ (what ++ (codes " " ++ (why ++ codes "\n")))))
-
+-- A refusal in words, on a line of its own.
 abbrev pub refusal_text : Refusal → List ℕ
-refusal_text e = refusal_line (refusal_number e) (subject e) (complaint e)
+refusal_text e = refusal_words e ++ codes "\n"
 
 abbrev pub answered_with : Result Asked Refusal → List ℕ
 answered_with (Ok q) = report_text (meant_by q.opening.rule q.opening.figures) q.opening.figures q.said

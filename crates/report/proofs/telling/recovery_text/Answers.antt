@@ -1,4 +1,5 @@
 use Rattle.std.proofs.Common.{◌≡◌, ℕ, vec_items, ap, ◌∙◌}
+use Rattle.std.proofs.lemmas.Result.{IfOk-weaker}
 use Rattle.rates.specs.Rule.{Rule}
 use Rattle.settings.specs.declared.figures.Figures.{Figures}
 use Rattle.silence.specs.Expiries.{struck, recovery}
@@ -19,9 +20,7 @@ told rule f value w h =
 
 pub returns : goal.returns
 returns g c =
-    record {
-      answer =
-          c.in_ok-text.ensures.answer
-          ∙ ap (λ line. way_text line c.in_ok-way.way) c.line_rate.ensures.answer
-          ∙ told (g.R.RateRule.meaning c.args.rule.now) c.args.settings.now.figures c.args.value c.in_ok-way.way c.in_ok-way.ensures.answer;
-    }
+    let way = c.in_ok-way.way in
+    let regime = c.args.regime.now in
+    let said = ap (λ line. way_text line way) c.line_rate.ensures.answer ∙ told (g.R.RateRule.meaning regime.rule) regime.settings.figures c.args.value way c.in_ok-way.ensures.answer in
+    record { answer = IfOk-weaker c.way_text.result _ _ (λ t e. e ∙ said) c.way_text.ensures.answer }
