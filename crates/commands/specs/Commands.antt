@@ -1,7 +1,9 @@
 -- What a line says.
-use Rattle.std.specs.Prelude.{ℕ, cond, List, [], ◌∷◌, length, is_some, Some, None, Ok, Err, Option, Result, ◌==◌, slice_index_or}
+use Rattle.std.specs.Prelude.{◌≡◌, ℕ, cond, List, [], length, is_some, Some, None, Ok, Err, Option, Result, ◌==◌, slice_index_or}
+use Rattle.std.specs.Result.{result_ok}
 use Rattle.fields.specs.Decimals.{decimal_of}
 use Rattle.fields.specs.Hexadecimals.{hex_of}
+use Rattle.fields.specs.Letters.{letter_of}
 use Rattle.fields.specs.Parts.{parts}
 use Rattle.notifiers.specs.Chosen.{kind_of as notifier_of}
 use Rattle.notifiers.specs.declared.chosen.NotifierKind.{NotifierKind}
@@ -33,16 +35,15 @@ abbrev pub or_fault : {X : Type 0} → Option X → Misplaced → Result X Mispl
 or_fault None m = Err m
 or_fault (Some x) m = Ok x
 
--- The letter that a field is, where it is one byte.
-abbrev pub letter_of : List ℕ → Option ℕ
-letter_of [] = None
-letter_of (letter ∷ []) = Some letter
-letter_of (a ∷ (b ∷ rest)) = None
-
 -- What a letter names.
 abbrev pub named : {X : Type 0} → (ℕ → Option X) → Option ℕ → Option X
 named kind None = None
 named kind (Some letter) = kind letter
+
+-- What one letter gives, by any reading of letters, or else a fault.
+abbrev pub Lettered : {X E : Type 0} → (ℕ → Result X E → Type 0) → Option ℕ → Misplaced → Result X Misplaced → Type 0
+Lettered {X} {E} gives None m result = result ≡ Err m
+Lettered {X} {E} gives (Some letter) m result = (read : Result X E) × gives letter read × (result ≡ or_fault (result_ok read) m)
 
 -- The command is the one that the first field names.
 abbrev pub verb_said : List (List ℕ) → Result Verb Misplaced

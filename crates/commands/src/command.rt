@@ -10,7 +10,7 @@ pub struct Opening {
     pub notifier: NotifierKind,
 }
 
-// What a line of a trace says.
+// What a line of a trace says. It is a value: only a line that is open can do it.
 #[derive(Clone, Copy)]
 pub enum Command<'a> {
     Open(Opening),

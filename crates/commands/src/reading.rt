@@ -1,16 +1,17 @@
-ghost use Rattle.std.specs.Prelude.{◌≡◌, map, IfOk};
+ghost use Rattle.std.specs.Prelude.{◌≡◌, [], slice_index_or};
+ghost use Rattle.fields.specs.Failures.{unless_memory};
+ghost use Rattle.fields.specs.Letters.{letter_of};
 ghost use Rattle.commands.specs.Said.{told};
-ghost use Rattle.commands.specs.Commands.{letter_of, verb_said, number_said, figures_said, rule_said, notifier_said, opening_said, open_said, offer_said, receive_said, wait_said, rates_said, said_as, counted, command_said, located, said};
+ghost use Rattle.commands.specs.Commands.{misplaced, Lettered, number_said, figures_said, opening_said, open_said, offer_said, receive_said, wait_said, rates_said, said_as, counted, command_said, located, said};
 
 use crate::columns::column_of;
 use crate::command::{Command, Opening};
 use crate::misread::{Misread, SyntaxFault};
 use crate::verb::Verb;
-use fields::{are_hex, decimal, field_at, field_count, split};
-use notifiers::chosen::NotifierKind;
-use rates::chosen::RuleKind;
+use fields::{Failure, Fields, are_hex, split};
 use settings::figures::Figures;
-use std::alloc::{AllocError, Global};
+use settings::letter::UnknownLetter;
+use std::alloc::Global;
 
 // The places of the two letters that open a line, behind its eight numbers.
 const RULE: usize = 9;
@@ -24,102 +25,50 @@ struct Misplaced {
     place: usize,
 }
 
-// The letter that a field is, where it is one byte.
-fn letter(field: &[u8]) -> Option<char>
-    ensures answer { result ≡ letter_of field.now }
+// What the letter in a place names; the fault where it names nothing.
+fn named<K: TryFrom<char, Error = UnknownLetter>>(
+    fields: &Fields<'_>,
+    place: usize,
+    fault: SyntaxFault,
+) -> Result<K, Misplaced>
+    ensures answer { Lettered K.try_from_gives (letter_of (slice_index_or fields.now place [])) (misplaced fault place) result }
 {
-    match field {
-        [letter] => Some(*letter as char),
-        _ => None,
-    }
+    let misplaced = Misplaced { fault, place };
+    let letter = fields.letter(place).ok_or(misplaced)?;
+    K::try_from(letter).map_err(|_| misplaced)
 }
 
-fn verb(fields: &[&[u8]]) -> Result<Verb, Misplaced>
-    ensures answer { result ≡ verb_said (map (λ x. x.now) fields.now) }
+#[tactic(auto, unfolding(crate::specs::Commands::number_said))]
+fn number(fields: &Fields<'_>, place: usize) -> Result<u32, Misplaced>
+    ensures answer { result ≡ number_said fields.now place }
 {
-    let fault = SyntaxFault::Command;
-    let Some(letter) = letter(field_at(fields, 0)) else {
-        return Err(Misplaced { fault, place: 0 });
-    };
-    match Verb::from_letter(letter) {
-        Some(verb) => Ok(verb),
-        None => Err(Misplaced { fault, place: 0 }),
-    }
+    let fault = SyntaxFault::Number;
+    fields.number(place).ok_or(Misplaced { fault, place })
 }
 
-fn number(fields: &[&[u8]], place: usize) -> Result<u32, Misplaced>
-    ensures answer { result ≡ number_said (map (λ x. x.now) fields.now) place }
+// The eight numbers behind the letter.
+// `question` has other places and faults in these lines: one reader of both would take them as a table of eight.
+fn figures(fields: &Fields<'_>) -> Result<Figures, Misplaced>
+    ensures answer { result ≡ figures_said fields.now }
 {
-    match decimal(field_at(fields, place)) {
-        Some(n) => Ok(n),
-        None => Err(Misplaced {
-            fault: SyntaxFault::Number,
-            place,
-        }),
-    }
-}
-
-fn figures(fields: &[&[u8]]) -> Result<Figures, Misplaced>
-    ensures answer { result ≡ figures_said (map (λ x. x.now) fields.now) }
-{
-    let line_rate = number(fields, 1)?;
-    let gain = number(fields, 2)?;
-    let step_a = number(fields, 3)?;
-    let step_b = number(fields, 4)?;
-    let period = number(fields, 5)?;
-    let byte_limit = number(fields, 6)?;
-    let set_point = number(fields, 7)?;
-    let weight = number(fields, 8)?;
     Ok(Figures {
-        line_rate,
-        gain,
-        step_a,
-        step_b,
-        period,
-        byte_limit,
-        set_point,
-        weight,
+        line_rate: number(fields, 1)?,
+        gain: number(fields, 2)?,
+        step_a: number(fields, 3)?,
+        step_b: number(fields, 4)?,
+        period: number(fields, 5)?,
+        byte_limit: number(fields, 6)?,
+        set_point: number(fields, 7)?,
+        weight: number(fields, 8)?,
     })
 }
 
-fn rule(fields: &[&[u8]]) -> Result<RuleKind, Misplaced>
-    ensures answer { result ≡ rule_said (map (λ x. x.now) fields.now) }
-{
-    let fault = SyntaxFault::Letter;
-    let Some(letter) = letter(field_at(fields, RULE)) else {
-        return Err(Misplaced { fault, place: RULE });
-    };
-    match RuleKind::from_letter(letter) {
-        Some(rule) => Ok(rule),
-        None => Err(Misplaced { fault, place: RULE }),
-    }
-}
-
-fn notifier(fields: &[&[u8]]) -> Result<NotifierKind, Misplaced>
-    ensures answer { result ≡ notifier_said (map (λ x. x.now) fields.now) }
-{
-    let fault = SyntaxFault::Letter;
-    let Some(letter) = letter(field_at(fields, NOTIFIER)) else {
-        return Err(Misplaced {
-            fault,
-            place: NOTIFIER,
-        });
-    };
-    match NotifierKind::from_letter(letter) {
-        Some(notifier) => Ok(notifier),
-        None => Err(Misplaced {
-            fault,
-            place: NOTIFIER,
-        }),
-    }
-}
-
-fn opening(fields: &[&[u8]]) -> Result<Opening, Misplaced>
-    ensures answer { result ≡ opening_said (map (λ x. x.now) fields.now) }
+fn opening(fields: &Fields<'_>) -> Result<Opening, Misplaced>
+    ensures answer { result ≡ opening_said fields.now }
 {
     let figures = figures(fields)?;
-    let rule = rule(fields)?;
-    let notifier = notifier(fields)?;
+    let rule = named(fields, RULE, SyntaxFault::Letter)?;
+    let notifier = named(fields, NOTIFIER, SyntaxFault::Letter)?;
     Ok(Opening {
         figures,
         rule,
@@ -127,24 +76,24 @@ fn opening(fields: &[&[u8]]) -> Result<Opening, Misplaced>
     })
 }
 
-fn open<'a>(fields: &[&'a [u8]]) -> Result<Command<'a>, Misplaced>
-    ensures answer { told result ≡ open_said (map (λ x. x.now) fields.now) }
+fn open<'a>(fields: &Fields<'a>) -> Result<Command<'a>, Misplaced>
+    ensures answer { told result ≡ open_said fields.now }
 {
     Ok(Command::Open(opening(fields)?))
 }
 
-fn offer<'a>(fields: &[&'a [u8]]) -> Result<Command<'a>, Misplaced>
-    ensures answer { told result ≡ offer_said (map (λ x. x.now) fields.now) }
+fn offer<'a>(fields: &Fields<'a>) -> Result<Command<'a>, Misplaced>
+    ensures answer { told result ≡ offer_said fields.now }
 {
     let flow = number(fields, 1)?;
     let length = number(fields, 2)?;
     Ok(Command::Offer { flow, length })
 }
 
-fn receive<'a>(fields: &[&'a [u8]]) -> Result<Command<'a>, Misplaced>
-    ensures answer { told result ≡ receive_said (map (λ x. x.now) fields.now) }
+fn receive<'a>(fields: &Fields<'a>) -> Result<Command<'a>, Misplaced>
+    ensures answer { told result ≡ receive_said fields.now }
 {
-    let digits = field_at(fields, 1);
+    let digits = fields.at(1);
     if are_hex(digits) {
         Ok(Command::Receive { digits })
     } else {
@@ -155,21 +104,21 @@ fn receive<'a>(fields: &[&'a [u8]]) -> Result<Command<'a>, Misplaced>
     }
 }
 
-fn wait<'a>(fields: &[&'a [u8]]) -> Result<Command<'a>, Misplaced>
-    ensures answer { told result ≡ wait_said (map (λ x. x.now) fields.now) }
+fn wait<'a>(fields: &Fields<'a>) -> Result<Command<'a>, Misplaced>
+    ensures answer { told result ≡ wait_said fields.now }
 {
     Ok(Command::Wait(number(fields, 1)?))
 }
 
-fn rates<'a>(fields: &[&'a [u8]]) -> Result<Command<'a>, Misplaced>
-    ensures answer { told result ≡ rates_said (map (λ x. x.now) fields.now) }
+fn rates<'a>(fields: &Fields<'a>) -> Result<Command<'a>, Misplaced>
+    ensures answer { told result ≡ rates_said fields.now }
 {
     Ok(Command::Rates(number(fields, 1)?))
 }
 
 // What fields in the right number say.
-fn read_as<'a>(verb: Verb, fields: &[&'a [u8]]) -> Result<Command<'a>, Misplaced>
-    ensures answer { told result ≡ said_as verb (map (λ x. x.now) fields.now) }
+fn read_as<'a>(verb: Verb, fields: &Fields<'a>) -> Result<Command<'a>, Misplaced>
+    ensures answer { told result ≡ said_as verb fields.now }
 {
     match verb {
         Verb::Open => open(fields),
@@ -183,10 +132,10 @@ fn read_as<'a>(verb: Verb, fields: &[&'a [u8]]) -> Result<Command<'a>, Misplaced
     }
 }
 
-fn count_fields<'a>(verb: Verb, fields: &[&'a [u8]]) -> Result<Command<'a>, Misplaced>
-    ensures answer { told result ≡ counted verb (map (λ x. x.now) fields.now) }
+fn count_fields<'a>(verb: Verb, fields: &Fields<'a>) -> Result<Command<'a>, Misplaced>
+    ensures answer { told result ≡ counted verb fields.now }
 {
-    if field_count(fields) != verb.fields() {
+    if fields.count() != verb.fields() {
         return Err(Misplaced {
             fault: SyntaxFault::Fields,
             place: 0,
@@ -195,13 +144,11 @@ fn count_fields<'a>(verb: Verb, fields: &[&'a [u8]]) -> Result<Command<'a>, Misp
     read_as(verb, fields)
 }
 
-fn read_fields<'a>(fields: &[&'a [u8]]) -> Result<Command<'a>, Misplaced>
-    ensures answer { told result ≡ command_said (map (λ x. x.now) fields.now) }
+fn read_fields<'a>(fields: &Fields<'a>) -> Result<Command<'a>, Misplaced>
+    ensures answer { told result ≡ command_said fields.now }
 {
-    match verb(fields) {
-        Ok(verb) => count_fields(verb, fields),
-        Err(misplaced) => Err(misplaced),
-    }
+    let verb = named(fields, 0, SyntaxFault::Command)?;
+    count_fields(verb, fields)
 }
 
 fn locate(line: &[u8], misplaced: Misplaced) -> Misread
@@ -214,15 +161,10 @@ fn locate(line: &[u8], misplaced: Misplaced) -> Misread
 }
 
 // Reads a line: its fields, with one space between them, are a command, or the first fault is told.
-pub fn read_command<'a>(
-    heap: Global,
-    line: &'a [u8],
-) -> Result<Result<Command<'a>, Misread>, AllocError>
-    ensures answer { IfOk result (λ c. told c ≡ said line.now) }
+#[tactic(auto, unfolding(crate::specs::Commands::said))]
+pub fn read_command<'a>(heap: Global, line: &'a [u8]) -> Result<Command<'a>, Failure<Misread>>
+    ensures answer { unless_memory result (λ c. told c ≡ said line.now) }
 {
     let fields = split(heap, line, b' ')?;
-    match read_fields(fields.as_slice()) {
-        Ok(command) => Ok(Ok(command)),
-        Err(misplaced) => Ok(Err(locate(line, misplaced))),
-    }
+    read_fields(&fields).map_err(|misplaced| Failure::Refused(locate(line, misplaced)))
 }

@@ -1,7 +1,10 @@
 ghost use Rattle.std.specs.Prelude.{◌≡◌};
+ghost use Rattle.settings.specs.Letters.{named_or_told};
 ghost use Rattle.commands.specs.Verbs.{verb_of, fields_of};
 
-// What a command does, as its first field names it.
+use settings::letter::UnknownLetter;
+
+// What a command does, as its first field names it. It is a value, so that the fields are counted before any is read.
 #[derive(Clone, Copy)]
 pub(crate) enum Verb {
     Open,
@@ -14,23 +17,27 @@ pub(crate) enum Verb {
     Columns,
 }
 
-impl Verb {
-    pub(crate) fn from_letter(letter: char) -> Option<Verb>
-        ensures answer { result ≡ verb_of letter }
-    {
+impl TryFrom<char> for Verb {
+    type Error = UnknownLetter;
+
+    ghost try_from_gives = { λ letter r. r ≡ named_or_told (verb_of letter) letter };
+
+    fn try_from(letter: char) -> Result<Self, UnknownLetter> {
         match letter {
-            's' => Some(Verb::Open),
-            'o' => Some(Verb::Offer),
-            'l' => Some(Verb::Leave),
-            'd' => Some(Verb::Deliver),
-            'r' => Some(Verb::Receive),
-            'w' => Some(Verb::Wait),
-            'f' => Some(Verb::Rates),
-            'p' => Some(Verb::Columns),
-            _ => None,
+            's' => Ok(Verb::Open),
+            'o' => Ok(Verb::Offer),
+            'l' => Ok(Verb::Leave),
+            'd' => Ok(Verb::Deliver),
+            'r' => Ok(Verb::Receive),
+            'w' => Ok(Verb::Wait),
+            'f' => Ok(Verb::Rates),
+            'p' => Ok(Verb::Columns),
+            _ => Err(UnknownLetter(letter)),
         }
     }
+}
 
+impl Verb {
     // How many fields a command has, its letter counted.
     pub(crate) fn fields(self) -> usize
         ensures answer { result ≡ fields_of self }
