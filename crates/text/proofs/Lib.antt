@@ -1,5 +1,3 @@
-mod Digits
-mod Pasting
-mod Measured
-mod Stepwise
+pub mod Pasting
+mod Turns
 mod ReadBack

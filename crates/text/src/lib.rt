@@ -1,12 +1,13 @@
 // Lines of fields printed into a buffer that is handed in.
-// `printed` has the fields, `writing` the two calls and their refusal, `measuring` the room that a text leaves,
-// `putting` the text at its place.
+// `printed` has the fields, `printable` what has a text, `lines` the texts made of others, `writing` the call and its
+// refusal.
 #![tactic(auto)]
 
-mod measuring;
+mod lines;
+mod printable;
 mod printed;
-mod putting;
 mod writing;
 
+pub use lines::{Line, Table};
 pub use printed::Printed;
-pub use writing::{NoRoom, write_line, write_table};
+pub use writing::{NoRoom, write};

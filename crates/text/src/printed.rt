@@ -13,9 +13,9 @@ pub enum Printed {
 }
 
 // Between two fields of a line.
-pub(crate) const SPACE: u8 = b' ';
+pub(crate) const SPACE: [u8; 1] = *b" ";
 // Behind the last field of a line.
-pub(crate) const NEWLINE: u8 = b'\n';
+pub(crate) const NEWLINE: [u8; 1] = *b"\n";
 // The words over the two columns.
 pub(crate) const SLOT: [u8; 4] = *b"slot";
 
