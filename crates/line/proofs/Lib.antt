@@ -1,8 +1,5 @@
-pub mod States
 pub mod Accepting
-pub mod Heeded
 pub mod Standing
-pub mod Left
 pub mod Arrived
 pub mod Waited
 pub mod Opened
@@ -13,4 +10,3 @@ pub mod Seeing
 pub mod Offered
 pub mod Following
 pub mod Ranging
-pub mod Served

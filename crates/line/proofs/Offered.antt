@@ -1,6 +1,7 @@
 -- An offer to a line follows the tally that it holds.
-use Rattle.std.proofs.Common.{◌≡◌, ℕ, ◌+◌, ◌<◌, ◌≤◌, Bool, true, false, cond, [], ◌∷◌, ◌++◌, Some, None, Option, sym, refl, ap, ◌∙◌, subst, ⊎_elim, arith}
-use Rattle.std.proofs.lemmas.Bool.{true≢false, cases_lt, cond-true, lt-ltb}
+use Rattle.std.proofs.lemmas.Grind.{common_steps}
+use Rattle.std.proofs.Common.{◌≡◌, ℕ, ◌+◌, ◌<◌, ◌≤◌, Bool, true, false, cond, [], ◌∷◌, ◌++◌, Some, None, Option, Result, sym, refl, ap, ◌∙◌, subst, arith}
+use Rattle.std.proofs.lemmas.Bool.{lt-ltb}
 use Rattle.rates.specs.declared.rate_rule.RateRule.{Ghosts as RuleGhosts}
 use Rattle.notifiers.specs.Meter.{Meter, lawful, at, moved}
 use Rattle.notifiers.specs.declared.notifier.Notifier.{Ghosts as NotifierGhosts}
@@ -14,33 +15,20 @@ use Rattle.tally.specs.Runs.{Open}
 use Rattle.tally.specs.Sound.{Sound}
 use Rattle.tally.specs.Steps.{offer, told_offer}
 use Rattle.tally.specs.Tally.{Constants, Tally, pages_waiting}
+use Rattle.tally.specs.declared.call.Offered.{Offered}
 use Rattle.tally.specs.declared.fault.CallFault.{CallFault}
+use Rattle.line.proofs.Following.{carried}
 use Rattle.line.specs.Holds.{Means, Holds, Follows}
 use Rattle.line.specs.Offer.{has_room, pages_more, new_frame, shown, sampling, showing, answer, accepted, after}
 use Rattle.line.specs.State.{State}
 use Rattle.line.proofs.Posting.{pushed_stands, pushed_same, posted_stands, posted_same}
-use Rattle.line.proofs.Seeing.{figures_same, frames_room, notices_room, refused_same, frame_same, pages_now, shown_lawful, showing_same}
+use Rattle.line.proofs.Seeing.{figures_same, frames_room, notices_room, refused_same, frame_same, pages_now, showing_same}
 
 -- the notifier means the tally after, by its choice
 means_moved :
     (K : Constants) (m : Meter) (t : Tally) (who : Identity) (n q : ℕ) → q ≡ pages_waiting (frames_offered K t who n) → Means K m t
     → (sampled : Bool) → Means K (cond sampled (at m q 0) (at m m.old (m.since + n))) (offer_moved K t who n sampled)
-means_moved K m t who n q counts h true = record {
-  set_point_same = h.set_point_same;
-  weight_same = h.weight_same;
-  gap_same = h.gap_same;
-  withholds_same = h.withholds_same;
-  old_same = counts;
-  since_behind = omega arith;
-}
-means_moved K m t who n q counts h false = record {
-  set_point_same = h.set_point_same;
-  weight_same = h.weight_same;
-  gap_same = h.gap_same;
-  withholds_same = h.withholds_same;
-  old_same = h.old_same;
-  since_behind = omega (arith, h.since_behind);
-}
+means_moved K m t who n q counts h sampled = grind (arith, common_steps)
 
 module _
     {R N : Type 0} (rr : RuleGhosts R) (nn : NotifierGhosts N)
@@ -57,11 +45,10 @@ module _
 
       module _ (none : offer_refused K t who n ≡ None) where
         gap_open : chosen ≡ false → t.since + n ≤ K.gap
-        gap_open not' =
-            ⊎_elim (λ over. absurd (true≢false (sym (due s.notifier (shown rr nn s who n) (shown_lawful rr nn s who n K t h none) over) ∙ not'))) (λ inside. omega (arith, h.means.gap_same, h.means.since_behind)) (cases_lt meter_now.gap (meter_now.since + n))
+        gap_open not' = grind (arith, common_steps)
 
         meter_after : nn.meter (nn.next s.notifier (shown rr nn s who n)) ≡ cond chosen (at meter_now (pages_more s.pages n) 0) (at meter_now meter_now.old (meter_now.since + n))
-        meter_after = moves s.notifier (shown rr nn s who n) ∙ cond-true _ _ _ (shown_lawful rr nn s who n K t h none)
+        meter_after = grind (arith, common_steps)
 
         frames_free : has_room s.frame_ring ≡ true
         frames_free = frames_room rr nn s who n K t h ∙ lt-ltb _ _ (admitted K t who n none).room
@@ -97,12 +84,15 @@ module _
             (subst (λ p. Holds rr nn K (accepted rr nn s who n) (moved_unless p t (offer_moved K t who n chosen))) (sym e) (accepted_holds e)),
       )
       follows_by (Some x) e = (
-        λ none. let z : ◌≡◌ {A = ℕ} 0 1 = cc in absurd (omega arith),
+        λ none. cc,
         ap (λ p. told_offer (unless p (posted (has_room s.wire_ring) (showing rr nn s who n)))) (refused_same rr nn s who n K t h ∙ e)
             ∙ ap (λ p. told_offer (unless p (posted (wire_room K t who n chosen) (offer_showing K t who n chosen)))) (sym e),
         subst (λ p. Holds rr nn K (moved_unless p s (accepted rr nn s who n)) (offer_after K t who n chosen)) (sym (refused_same rr nn s who n K t h ∙ e))
             (subst (λ p. Holds rr nn K s (moved_unless p t (offer_moved K t who n chosen))) (sym e) h),
       )
 
-    pub offer_follows : Follows rr nn s (offer who n) (told_offer (answer rr nn s who n)) (after rr nn s who n)
-    offer_follows K t h = let f = follows_by K t h (offer_refused K t who n) refl in (sampling rr nn s who n, f.0, f.1, f.2)
+    offers : Follows rr nn s (offer who n) (told_offer (answer rr nn s who n)) (after rr nn s who n)
+    offers K t h = let f = follows_by K t h (offer_refused K t who n) refl in (sampling rr nn s who n, f.0, f.1, f.2)
+
+    pub offer_follows : (r : Result Offered CallFault) (u : State R N) → r ≡ answer rr nn s who n → u ≡ after rr nn s who n → Follows rr nn s (offer who n) (told_offer r) u
+    offer_follows r u answers moves' = carried rr nn s (offer who n) _ _ _ _ (ap told_offer answers) moves' offers

@@ -1,8 +1,9 @@
 -- A new line holds the tally of an opening.
-use Rattle.std.proofs.Common.{◌≡◌, ℕ, Bool, true, false, cond, eqb, leb, List, length, Some, None, refl, arith}
+use Rattle.std.proofs.lemmas.Grind.{common_steps}
+use Rattle.std.proofs.Common.{◌≡◌, ℕ, Bool, true, cond, eqb, leb, List, length, Some, None, refl, arith}
 use Rattle.std.proofs.lemmas.Bool.{and_parts, leb-true, eqb-true}
-use Rattle.settings.specs.declared.accepted.Settings.{Settings}
 use Rattle.rates.specs.Rule.{Lawful}
+use Rattle.rates.specs.declared.regime.Regime.{Regime}
 use Rattle.rates.specs.declared.rate_rule.RateRule.{Ghosts as RuleGhosts}
 use Rattle.notifiers.specs.declared.notifier.Notifier.{Ghosts as NotifierGhosts}
 use Rattle.ring.specs.Standing.{fresh}
@@ -15,27 +16,25 @@ use Rattle.line.specs.Holds.{Stands, Holds}
 use Rattle.line.specs.Opening.{in_limits, matching, open_refusal, new_state, Fixed}
 
 none_tells : (a b : Bool) → cond a (cond b None (Some Memory)) (Some Notifier) ≡ None → (a ≡ true) × (b ≡ true)
-none_tells true true e = (refl, refl)
-none_tells true false e = let z : ◌≡◌ {A = ℕ} 0 1 = cc in absurd (omega arith)
-none_tells false b e = let z : ◌≡◌ {A = ℕ} 0 1 = cc in absurd (omega arith)
+none_tells a b e = grind (arith, common_steps)
 
 fresh_stands : (n : ℕ) → Stands (fresh n) n n
-fresh_stands n = record { ring_sized = refl; memory_sized = refl; head_in = omega arith; count_in = omega arith }
+fresh_stands n = grind (arith, common_steps)
 
 pub opens :
-    {R N : Type 0} (rr : RuleGhosts R) (nn : NotifierGhosts N) (set : Settings) (rule : R) (notifier : N) (frames : List Frame) (wire : List Notice)
-    → Lawful (rr.meaning rule) → open_refusal set (nn.meter notifier) (length frames) (length wire) ≡ None
-    → (K : Constants) × Fixed set rule notifier frames wire rr nn K × Holds rr nn K (new_state set rule notifier frames wire) (opened (nn.meter notifier).old)
-opens rr nn set rule notifier frames wire lawful none =
+    {R N : Type 0} (rr : RuleGhosts R) (nn : NotifierGhosts N) (regime : Regime R) (notifier : N) (frames : List Frame) (wire : List Notice)
+    → Lawful (rr.meaning regime.rule) → open_refusal regime.settings (nn.meter notifier) (length frames) (length wire) ≡ None
+    → (K : Constants) × Fixed regime notifier frames wire rr nn K × Holds rr nn K (new_state regime notifier frames wire) (opened (nn.meter notifier).old)
+opens rr nn regime notifier frames wire lawful none =
     let meter = nn.meter notifier in
-    let told = none_tells (matching set meter) (in_limits (length frames) (length wire)) none in
-    let match' = and_parts (eqb meter.set_point set.figures.set_point) (eqb meter.weight set.figures.weight) told.0 in
+    let told = none_tells (matching regime.settings meter) (in_limits (length frames) (length wire)) none in
+    let match' = and_parts (eqb meter.set_point regime.settings.figures.set_point) (eqb meter.weight regime.settings.figures.weight) told.0 in
     let sizes = and_parts _ _ told.1 in
     let few_frames = leb-true (length frames) 256 (and_parts (leb 1 (length frames)) (leb (length frames) 256) sizes.0).1 in
     let few_notices = leb-true (length wire) 32 (and_parts (leb 1 (length wire)) (leb (length wire) 32) sizes.1).1 in
     let K : Constants = record {
-      settings = set;
-      rule = rr.meaning rule;
+      settings = regime.settings;
+      rule = rr.meaning regime.rule;
       lawful = lawful;
       frame_places = length frames;
       few_frames = few_frames;

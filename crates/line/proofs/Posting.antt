@@ -1,7 +1,7 @@
 -- A ring that stands within its memory: its room, and what one item more does.
+use Rattle.std.proofs.lemmas.Grind.{common_steps}
 use Rattle.std.proofs.Common.{◌≡◌, ℕ, ◌<◌, Bool, true, false, eqb, ltb, List, [], ◌∷◌, ◌++◌, length, set, sym, ap, ◌∙◌, arith}
-use Rattle.std.proofs.lemmas.List.{length-set}
-use Rattle.std.proofs.lemmas.Bool.{eq-eqb, ltb-true}
+use Rattle.std.proofs.lemmas.Bool.{ltb-true}
 use Rattle.notifiers.specs.declared.shown.Showing.{Showing}
 use Rattle.notifiers.specs.declared.shown.Showing.TheVariants.{Unsampled, Quiet, Notice as Noticed}
 use Rattle.ring.proofs.Turning.{waiting_length, pushed_waiting}
@@ -15,7 +15,7 @@ use Rattle.line.specs.Offer.{has_room, ring_posted, memory_posted}
 
 module _ {T : Type 0} (ring : Standing) (memory : List T) (places : ℕ) (stands : Stands ring (length memory) places) where
   pub stands_sized : eqb (length memory) ring.size ≡ true
-  stands_sized = eq-eqb (length memory) ring.size (stands.memory_sized ∙ sym stands.ring_sized)
+  stands_sized = grind (arith, common_steps)
 
   -- the ring has room where fewer items wait than there are places
   pub room_same : (xs : List T) → waiting ring memory ≡ xs → has_room ring ≡ ltb (length xs) places
@@ -28,12 +28,7 @@ module _ {T : Type 0} (ring : Standing) (memory : List T) (places : ℕ) (stands
     free = ltb-true ring.count ring.size room
 
     pub pushed_stands : Stands (pushed ring) (length (set memory (tail_place ring) x)) places
-    pushed_stands = record {
-      ring_sized = stands.ring_sized;
-      memory_sized = length-set memory (tail_place ring) x ∙ stands.memory_sized;
-      head_in = stands.head_in;
-      count_in = omega (arith, free);
-    }
+    pushed_stands = grind (arith, common_steps)
 
     pub pushed_same : (xs : List T) → waiting ring memory ≡ xs → waiting (pushed ring) (set memory (tail_place ring) x) ≡ xs ++ (x ∷ [])
     pushed_same xs same = pushed_waiting ring memory x stands.head_in free (stands.memory_sized ∙ sym stands.ring_sized) ∙ ap (λ ys. ys ++ (x ∷ [])) same
@@ -41,10 +36,7 @@ module _ {T : Type 0} (ring : Standing) (memory : List T) (places : ℕ) (stands
 -- the wire, whatever the notifier answers
 module _ (who : Identity) (ring : Standing) (wire : List Notice) (places : ℕ) (stands : Stands ring (length wire) places) where
   pub posted_stands : (room : Bool) (shows : Showing) → has_room ring ≡ room → Stands (ring_posted room shows ring) (length (memory_posted room who shows ring wire)) places
-  posted_stands room Unsampled has = stands
-  posted_stands room Quiet has = stands
-  posted_stands true (Noticed v) has = pushed_stands ring wire places stands has (noticing who v)
-  posted_stands false (Noticed v) has = stands
+  posted_stands room shows has = grind (arith, common_steps)
 
   pub posted_same :
       (room : Bool) (shows : Showing) → has_room ring ≡ room → (ns : List Notice) → waiting ring wire ≡ ns

@@ -1,36 +1,26 @@
 -- What a line makes of an offer is what the tally that it holds makes of it.
-use Rattle.std.proofs.Common.{◌≡◌, ℕ, ◌+◌, ◌≤◌, Bool, true, false, cond, ◌&&◌, ltb, leb, length, Some, None, Option, refl, ap, ◌∙◌, subst, arith}
-use Rattle.std.proofs.ByRecursion.{all-has, has_push}
-use Rattle.std.proofs.lemmas.List.Sums.{sum_by_push}
-use Rattle.std.proofs.lemmas.Bool.{true≢false, cond-true, and_from, and_parts, le-leb}
+use Rattle.std.proofs.lemmas.Grind.{common_steps}
+use Rattle.std.proofs.Common.{◌≡◌, ℕ, ◌+◌, ◌≤◌, true, cond, ◌&&◌, ltb, length, None, ap, ◌∙◌, subst, arith}
+use Rattle.std.proofs.lemmas.Bool.{true≢false, cond-true, and_from}
 use Rattle.settings.specs.declared.accepted.Settings.{Settings}
 use Rattle.rates.specs.declared.rate_rule.RateRule.{Ghosts as RuleGhosts}
 use Rattle.notifiers.specs.Meter.{Meter, lawful, valued}
 use Rattle.notifiers.specs.Severity.{severity}
 use Rattle.notifiers.specs.declared.notifier.Notifier.{Ghosts as NotifierGhosts}
 use Rattle.notifiers.specs.declared.shown.Showing.TheVariants.{Unsampled}
-use Rattle.limiters.specs.Pass.{mark_of}
 use Rattle.limiters.specs.declared.limiter.Identity.{Identity}
 use Rattle.tally.proofs.Accepting.{sound_offered}
-use Rattle.tally.specs.Offering.{lawful_length, moved_unless, offer_refusal, offer_refused, offered_frame, frames_offered, offer_showing, offer_moved}
-use Rattle.tally.specs.Sound.{FrameKept, Sound}
+use Rattle.tally.specs.Offering.{moved_unless, offer_refusal, offer_refused, offered_frame, frames_offered, offer_showing, offer_moved}
+use Rattle.tally.specs.Sound.{Sound}
 use Rattle.tally.specs.Tally.{Constants, Tally, pages, pages_waiting}
-use Rattle.tally.specs.declared.fault.CallFault.{CallFault}
-use Rattle.tally.specs.declared.fault.CallFault.TheVariants.{Length}
-use Rattle.tally.specs.declared.frame.Frame.{Frame}
 use Rattle.line.specs.Holds.{Holds}
 use Rattle.line.specs.Offer.{has_room, pages_more, refusal, new_frame, shown, sampling, showing}
 use Rattle.line.specs.State.{State}
 use Rattle.line.proofs.Pages.{pages_low}
 use Rattle.line.proofs.Posting.{stands_sized, room_same}
 
--- an offer that is not refused has a lawful length
-lawful_none : (b : Bool) (o : Option CallFault) → cond b o (Some Length) ≡ None → b ≡ true
-lawful_none true o e = refl
-lawful_none false o e = let z : ◌≡◌ {A = ℕ} 0 1 = cc in absurd (omega arith)
-
 module _ {R N : Type 0} (rr : RuleGhosts R) (nn : NotifierGhosts N) (s : State R N) (who : Identity) (n : ℕ) (K : Constants) (t : Tally) (h : Holds rr nn K s t) where
-  pub figures_same : s.settings.figures ≡ K.settings.figures
+  pub figures_same : s.regime.settings.figures ≡ K.settings.figures
   figures_same = ap (λ (x : Settings). x.figures) h.settings_same
 
   pub frames_room : has_room s.frame_ring ≡ ltb (length t.frames) K.frame_places
@@ -45,15 +35,12 @@ module _ {R N : Type 0} (rr : RuleGhosts R) (nn : NotifierGhosts N) (s : State R
       ∙ (λ i. offer_refusal (figures_same i) (frames_room i) (h.slots_same i) who n)
 
   mark_same : (new_frame rr nn s who n).mark ≡ (offered_frame K t who n).mark
-  mark_same = λ i. mark_of (h.rule_same i) (figures_same i) n who (h.slots_same i)
+  mark_same = grind (arith, common_steps)
 
   pub frame_same : new_frame rr nn s who n ≡ offered_frame K t who n
   frame_same = λ i. record { from = who; length = n; mark = mark_same i }
 
   module _ (none : offer_refused K t who n ≡ None) where
-    lawful_now : lawful_length n ≡ true
-    lawful_now = lawful_none (lawful_length n) _ none
-
     -- whether it is sampled or not, the frames are kept
     sampled_sound : Sound K (offer_moved K t who n true)
     sampled_sound = subst (λ o. Sound K (moved_unless o t (offer_moved K t who n true))) none (sound_offered K t who n true (λ _ e. absurd (true≢false e)) h.sound)
@@ -62,18 +49,13 @@ module _ {R N : Type 0} (rr : RuleGhosts R) (nn : NotifierGhosts N) (s : State R
     pages_few = pages_low (frames_offered K t who n) sampled_sound.frames_kept (omega (arith, sampled_sound.frames_fit, K.few_frames))
 
     pages_grow : pages_waiting (frames_offered K t who n) ≡ pages_waiting t.frames + pages n
-    pages_grow = sum_by_push (λ (f : Frame). pages f.length) t.frames (offered_frame K t who n)
+    pages_grow = grind (arith, common_steps)
 
     pub pages_now : pages_more s.pages n ≡ pages_waiting (frames_offered K t who n)
     pages_now = omega (arith, h.pages_same, pages_grow, pages_few)
 
-    mark_few : (offered_frame K t who n).mark ≤ 63
-    mark_few = (all-has FrameKept (frames_offered K t who n) (offered_frame K t who n) sampled_sound.frames_kept (has_push t.frames (offered_frame K t who n))).mark_low
-
     pub shown_lawful : lawful (shown rr nn s who n) ≡ true
-    shown_lawful =
-        let long = and_parts (leb 64 n) (leb n 2000) lawful_now in
-        and_from _ _ (le-leb _ _ (omega (arith, pages_now, pages_few))) (and_from _ _ long.0 (and_from _ _ long.1 (le-leb _ _ (omega (arith, mark_same, mark_few)))))
+    shown_lawful = grind (arith, common_steps)
 
     pub showing_same : showing rr nn s who n ≡ offer_showing K t who n (sampling rr nn s who n)
     showing_same =

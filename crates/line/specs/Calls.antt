@@ -15,17 +15,17 @@ module _ {R N : Type 0} (rr : RuleGhosts R) (s : State R N) (n : ℕ) where
   abbrev pub wait_answer : Result ℕ CallFault
   wait_answer =
       cond (sized s)
-      (cond (nat_le n longest_wait) (Ok (sum_by (expiries (rr.meaning s.rule) s.settings.figures n) s.slots)) (Err fault.Wait))
+      (cond (nat_le n longest_wait) (Ok (sum_by (expiries (rr.meaning s.regime.rule) s.regime.settings.figures n) s.slots)) (Err fault.Wait))
       (Err fault.Memory)
 
   abbrev pub wait_after : State R N
   wait_after =
       cond (sized s)
-      (cond (nat_le n longest_wait) (with_limiters s (map (micros (rr.meaning s.rule) s.settings.figures n) s.slots) s.cursor s.wire_ring) s)
+      (cond (nat_le n longest_wait) (with_limiters s (map (micros (rr.meaning s.regime.rule) s.regime.settings.figures n) s.slots) s.cursor s.wire_ring) s)
       s
 
 module _ {R N : Type 0} (rr : RuleGhosts R) (nn : NotifierGhosts N) (s : State R N) where
-  abbrev pub answer_of : Asked → Answer
+  abbrev pub answer_of : Asked → Result Answer CallFault
   answer_of (offer who n) = told_offer (offering.answer rr nn s who n)
   answer_of leave = told_leave (leave_answer s)
   answer_of deliver = told_notice (deliver_answer rr s)

@@ -1,5 +1,5 @@
 -- A line, its notifier and both memories hold a tally.
-use Rattle.std.specs.Prelude.{◌≡◌, ℕ, ◌-◌, ◌≤◌, Bool, length}
+use Rattle.std.specs.Prelude.{◌≡◌, ℕ, ◌-◌, ◌≤◌, Bool, length, Result}
 use Rattle.rates.specs.declared.rate_rule.RateRule.{Ghosts as RuleGhosts}
 use Rattle.notifiers.specs.declared.notifier.Notifier.{Ghosts as NotifierGhosts}
 use Rattle.notifiers.specs.Meter.{Meter}
@@ -10,6 +10,7 @@ use Rattle.tally.specs.Sound.{Sound}
 use Rattle.tally.specs.Steps.{Asked, answer_to, tally_after}
 use Rattle.tally.specs.Tally.{Constants, Tally, pages_waiting}
 use Rattle.tally.specs.declared.call.Answer.{Answer}
+use Rattle.tally.specs.declared.fault.CallFault.{CallFault}
 use Rattle.line.specs.State.{State}
 
 -- A ring of so many places stands within a memory of as many.
@@ -30,8 +31,8 @@ pub record Means (K : Constants) (m : Meter) (t : Tally) : Type 0 where
 
 module _ {R N : Type 0} (rr : RuleGhosts R) (nn : NotifierGhosts N) where
   pub record Holds (K : Constants) (s : State R N) (t : Tally) : Type 0 where
-    pub settings_same : s.settings ≡ K.settings
-    pub rule_same : rr.meaning s.rule ≡ K.rule
+    pub settings_same : s.regime.settings ≡ K.settings
+    pub rule_same : rr.meaning s.regime.rule ≡ K.rule
     pub slots_same : s.slots ≡ t.slots
     pub cursor_same : s.cursor ≡ t.cursor
     pub frames_stand : Stands s.frame_ring (length s.frames) K.frame_places
@@ -43,7 +44,7 @@ module _ {R N : Type 0} (rr : RuleGhosts R) (nn : NotifierGhosts N) where
     pub sound : Sound K t
 
   -- Whatever tally was held before a call: the answer is the tally's, only the choice to sample being the notifier's, and the tally that it moves to is held after.
-  abbrev pub Follows : State R N → Asked → Answer → State R N → Type 0
+  abbrev pub Follows : State R N → Asked → Result Answer CallFault → State R N → Type 0
   Follows before asked answer after =
       (K : Constants) (t : Tally) → Holds K before t
       → (sampled : Bool) × Open K t asked sampled × (answer ≡ answer_to K t asked sampled) × Holds K after (tally_after K t asked sampled)

@@ -42,10 +42,10 @@ has_room ring = nat_lt ring.count ring.size
 module _ {R N : Type 0} (rr : RuleGhosts R) (nn : NotifierGhosts N) (s : State R N) (who : Identity) (n : ℕ) where
   -- A memory of another size is refused before anything else.
   abbrev pub refusal : Option CallFault
-  refusal = cond (sized s) (offer_refusal s.settings.figures (has_room s.frame_ring) s.slots who n) (Some Memory)
+  refusal = cond (sized s) (offer_refusal s.regime.settings.figures (has_room s.frame_ring) s.slots who n) (Some Memory)
 
   abbrev pub new_frame : Frame
-  new_frame = record { from = who; length = n; mark = mark_of (rr.meaning s.rule) s.settings.figures n who s.slots }
+  new_frame = record { from = who; length = n; mark = mark_of (rr.meaning s.regime.rule) s.regime.settings.figures n who s.slots }
 
   -- The frame as the notifier is shown it, with the pages that wait then; and what it answers, by its own choice to sample.
   abbrev pub shown : Shown
@@ -62,10 +62,9 @@ module _ {R N : Type 0} (rr : RuleGhosts R) (nn : NotifierGhosts N) (s : State R
 
   abbrev pub accepted : State R N
   accepted = record {
-    settings = s.settings;
-    rule = s.rule;
+    regime = s.regime;
     notifier = nn.next s.notifier shown;
-    slots = sent_by (rr.meaning s.rule) s.settings.figures n s.slots (serving who s.slots);
+    slots = sent_by (rr.meaning s.regime.rule) s.regime.settings.figures n s.slots (serving who s.slots);
     cursor = s.cursor;
     frame_ring = pushed s.frame_ring;
     frames = slice_set s.frames (tail_place s.frame_ring) new_frame;

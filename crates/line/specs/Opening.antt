@@ -1,6 +1,7 @@
 -- Opening a line.
 use Rattle.std.specs.Prelude.{◌≡◌, ℕ, Bool, cond, ◌&&◌, List, length, replicate, Some, None, Ok, Err, Option, Result, ◌==◌, nat_le}
 use Rattle.settings.specs.declared.accepted.Settings.{Settings}
+use Rattle.rates.specs.declared.regime.Regime.{Regime}
 use Rattle.rates.specs.declared.rate_rule.RateRule.{Ghosts as RuleGhosts}
 use Rattle.notifiers.specs.Meter.{Meter}
 use Rattle.notifiers.specs.declared.notifier.Notifier.{Ghosts as NotifierGhosts}
@@ -29,20 +30,19 @@ abbrev pub open_refusal : Settings → Meter → ℕ → ℕ → Option OpenFaul
 open_refusal set m frames wire = cond (matching set m) (cond (in_limits frames wire) None (Some Memory)) (Some Notifier)
 
 -- A refusal gives everything back.
-abbrev pub returned : {R N : Type 0} → Settings → R → N → OpenFault → NotOpened R N
-returned set rule notifier e = record { fault = e; settings = set; rule = rule; notifier = notifier }
+abbrev pub returned : {R N : Type 0} → Regime R → N → OpenFault → NotOpened R N
+returned regime notifier e = record { fault = e; regime = regime; notifier = notifier }
 
 -- Why there is no line, if there is none.
 abbrev pub refusal_in : {R N : Type 0} → Result (Line R N) (NotOpened R N) → Option OpenFault
 refusal_in (Ok l) = None
 refusal_in (Err e) = Some e.fault
 
-module _ {R N : Type 0} (set : Settings) (rule : R) (notifier : N) (frames : List Frame) (wire : List Notice) where
+module _ {R N : Type 0} (regime : Regime R) (notifier : N) (frames : List Frame) (wire : List Notice) where
   -- A new line: 64 free limiters, cursor 0, nothing waiting; it fixes the sizes of both memories.
   abbrev pub new_state : State R N
   new_state = record {
-    settings = set;
-    rule = rule;
+    regime = regime;
     notifier = notifier;
     slots = replicate 64 Free;
     cursor = 0;
@@ -55,7 +55,7 @@ module _ {R N : Type 0} (set : Settings) (rule : R) (notifier : N) (frames : Lis
 
   abbrev pub open_answer : Option OpenFault → Result (State R N) (NotOpened R N)
   open_answer None = Ok new_state
-  open_answer (Some e) = Err (returned set rule notifier e)
+  open_answer (Some e) = Err (returned regime notifier e)
 
   -- An answer by what it holds.
   abbrev pub told_open : Result (Line R N) (NotOpened R N) → Result (State R N) (NotOpened R N)
@@ -64,8 +64,8 @@ module _ {R N : Type 0} (set : Settings) (rule : R) (notifier : N) (frames : Lis
 
   -- What a line is opened with is fixed from then on.
   pub record Fixed (rr : RuleGhosts R) (nn : NotifierGhosts N) (K : Constants) : Type 0 where
-    pub settings_fixed : K.settings ≡ set
-    pub rule_fixed : K.rule ≡ rr.meaning rule
+    pub settings_fixed : K.settings ≡ regime.settings
+    pub rule_fixed : K.rule ≡ rr.meaning regime.rule
     pub frames_fixed : K.frame_places ≡ length frames
     pub wire_fixed : K.wire_places ≡ length wire
     pub gap_fixed : K.gap ≡ (nn.meter notifier).gap

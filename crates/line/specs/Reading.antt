@@ -9,11 +9,11 @@ use Rattle.line.specs.declared.listing.ListedRow.{ListedRow}
 
 -- The line rate for both where no limiter serves.
 abbrev pub unlimited : ℕ → FlowRates
-unlimited line = record { slot = None; current = line; target = line }
+unlimited line = record { slot = None; rates = record { current = line; target = line } }
 
 abbrev pub rates_at : ℕ → ℕ → Limiter → FlowRates
 rates_at line i Free = unlimited line
-rates_at line i (InService r) = record { slot = Some i; current = r.current; target = r.target }
+rates_at line i (InService r) = record { slot = Some i; rates = r.rates }
 
 abbrev pub rates_by : ℕ → List Limiter → Option ℕ → FlowRates
 rates_by line ls None = unlimited line

@@ -1,6 +1,6 @@
 -- A line together with what both memories hold, as plain data.
 use Rattle.std.specs.Prelude.{ℕ, Bool, ◌&&◌, List, length, ◌==◌}
-use Rattle.settings.specs.declared.accepted.Settings.{Settings}
+use Rattle.rates.specs.declared.regime.Regime.{Regime}
 use Rattle.ring.specs.Standing.{Standing, standing_of}
 use Rattle.limiters.specs.declared.limiter.Limiter.{Limiter}
 use Rattle.tally.specs.declared.frame.Frame.{Frame}
@@ -8,8 +8,7 @@ use Rattle.tally.specs.declared.notice.Notice.{Notice}
 use Rattle.line.specs.declared.uplink.Line.{Line}
 
 pub record State (R N : Type 0) : Type 0 where
-  pub settings : Settings
-  pub rule : R
+  pub regime : Regime R
   pub notifier : N
   pub slots : List Limiter
   pub cursor : ℕ
@@ -21,8 +20,7 @@ pub record State (R N : Type 0) : Type 0 where
 
 abbrev pub state : {R N : Type 0} → Line R N → List Frame → List Notice → State R N
 state l frames wire = record {
-  settings = l.settings;
-  rule = l.rule;
+  regime = l.regime;
   notifier = l.notifier;
   slots = l.table.slots;
   cursor = l.table.cursor;
@@ -40,8 +38,7 @@ sized s = length s.frames == s.frame_ring.size && length s.wire == s.wire_ring.s
 -- Some of it changed: the frames that wait and their pages, the notices that wait, the limiters.
 abbrev pub with_frames : {R N : Type 0} → State R N → Standing → ℕ → State R N
 with_frames s ring pages = record {
-  settings = s.settings;
-  rule = s.rule;
+  regime = s.regime;
   notifier = s.notifier;
   slots = s.slots;
   cursor = s.cursor;
@@ -54,8 +51,7 @@ with_frames s ring pages = record {
 
 abbrev pub with_limiters : {R N : Type 0} → State R N → List Limiter → ℕ → Standing → State R N
 with_limiters s slots cursor ring = record {
-  settings = s.settings;
-  rule = s.rule;
+  regime = s.regime;
   notifier = s.notifier;
   slots = slots;
   cursor = cursor;

@@ -35,11 +35,11 @@ module _ {R N : Type 0} (s : State R N) where
 module _ {R N : Type 0} (rr : RuleGhosts R) (s : State R N) where
   -- A notice arrives, and the wire stands so then.
   abbrev pub outcome : Notice → Outcome
-  outcome n = heeded (rr.meaning s.rule) s.settings.figures s.cursor s.slots n
+  outcome n = heeded (rr.meaning s.regime.rule) s.regime.settings.figures s.cursor s.slots n
 
   abbrev pub heeding : Notice → Standing → State R N
   heeding n ring =
-      with_limiters s (slots_heeding (rr.meaning s.rule) s.settings.figures s.cursor s.slots n) (cursor_heeding (rr.meaning s.rule) s.settings.figures s.cursor s.slots n) ring
+      with_limiters s (slots_heeding (rr.meaning s.regime.rule) s.regime.settings.figures s.cursor s.slots n) (cursor_heeding (rr.meaning s.regime.rule) s.regime.settings.figures s.cursor s.slots n) ring
 
   abbrev pub delivered_from : List Notice → Result Outcome CallFault
   delivered_from [] = Err fault.NoNotice

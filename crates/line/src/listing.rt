@@ -1,15 +1,16 @@
 ghost use Rattle.std.specs.Prelude.{◌≡◌, ◌≤◌, length};
 
 use limiters::limiter::Identity;
+use limiters::table::SLOTS;
+use rates::rates::Rates;
 
 pub mod rows;
 
-// A flow's slot, if a limiter serves it, and the rates that it is held to, kbit/s.
+// A flow's slot, if a limiter serves it, and the rates that it is held to.
 #[derive(Clone, Copy)]
 pub struct FlowRates {
     pub slot: Option<usize>,
-    pub current: u32,
-    pub target: u32,
+    pub rates: Rates,
 }
 
 // A limiter in service.
@@ -22,8 +23,8 @@ pub struct ListedRow {
 // The limiters in service, in slot order.
 #[derive(Clone, Copy)]
 pub struct Listing {
-    rows: [ListedRow; 64],
-    // how many of them are in service
+    rows: [ListedRow; SLOTS],
+    // how many are in service, beside the array: no heap here, and the kit's `ArrayVec` can't be copied
     count: usize,
     ghost long: { length rows ≡ 64 },
     ghost inside: { count ≤ 64 },

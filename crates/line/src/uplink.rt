@@ -1,6 +1,6 @@
 use limiters::table::Table;
+use rates::regime::Regime;
 use ring::fifo::Ring;
-use settings::accepted::Settings;
 use tally::fault::OpenFault;
 
 pub mod arriving;
@@ -14,10 +14,10 @@ mod sizing;
 pub mod waiting;
 
 // The rate control of one uplink. The memory for waiting frames, and that for notices under way, are lent to each call.
+// The two are lent side by side: a struct with a `&mut` in it gets no proof of what a call leaves behind it.
 #[derive(Drop)]
 pub struct Line<R, N> {
-    settings: Settings,
-    rule: R,
+    regime: Regime<R>,
     notifier: N,
     table: Table,
     // frames that wait
@@ -32,7 +32,6 @@ pub struct Line<R, N> {
 #[derive(Drop)]
 pub struct NotOpened<R, N> {
     pub fault: OpenFault,
-    pub settings: Settings,
-    pub rule: R,
+    pub regime: Regime<R>,
     pub notifier: N,
 }

@@ -1,11 +1,11 @@
 -- An accepted frame keeps a tally sound.
-use Rattle.std.proofs.Common.{◌≡◌, ℕ, ◌+◌, ◌<◌, ◌≤◌, Bool, true, false, cond, ltb, leb, List, [], ◌∷◌, ◌++◌, length, Some, None, Option, refl, arith}
+use Rattle.std.proofs.lemmas.Grind.{common_steps}
+use Rattle.std.proofs.Common.{◌≡◌, ℕ, ◌+◌, ◌<◌, ◌≤◌, Bool, true, false, ltb, List, length, Some, None, Option, refl, arith}
 use Rattle.std.proofs.ByRecursion.{All-push}
 use Rattle.std.proofs.lemmas.List.{length_push}
-use Rattle.std.proofs.lemmas.Bool.{cond_both, and_parts, leb-true, ltb-true}
+use Rattle.std.proofs.lemmas.Bool.{cond_both}
 use Rattle.std.specs.List.{AllByRecursion}
 use Rattle.notifiers.specs.declared.shown.Showing.{Showing}
-use Rattle.notifiers.specs.declared.shown.Showing.TheVariants as showing
 use Rattle.limiters.specs.Pass.{passes, limiter_of}
 use Rattle.limiters.specs.Table.{serving}
 use Rattle.limiters.specs.declared.limiter.Identity.{Identity}
@@ -13,46 +13,30 @@ use Rattle.tally.proofs.Severities.{Fair, severity_low, valued_fair, shown_fair}
 use Rattle.tally.proofs.Slots.{Low, at_found, sent_low}
 use Rattle.tally.proofs.Tables.{Kept, kept_of, kept_sent, sound_from}
 use Rattle.tally.specs.declared.fault.CallFault.{CallFault}
-use Rattle.tally.specs.declared.fault.CallFault.TheVariants.{Length, Full, Pace}
 use Rattle.tally.specs.declared.notice.Notice.{Notice}
-use Rattle.tally.specs.Offering.{lawful_length, noticing, wire_posted, moved_unless, offer_refused, offered_frame, offer_severity, offer_showing, offer_moved}
+use Rattle.tally.specs.Offering.{noticing, wire_posted, moved_unless, offer_refused, offered_frame, offer_severity, offer_showing, offer_moved}
 use Rattle.tally.specs.Sound.{FrameKept, NoticeKept, Sound}
 use Rattle.tally.specs.Tally.{Constants, Tally}
 
--- an offer that is not refused has a lawful length and room, and passes
-not_refused : (a b c : Bool) → cond a (cond b (cond c None (Some Pace)) (Some Full)) (Some Length) ≡ None → (a ≡ true) × (b ≡ true) × (c ≡ true)
-not_refused true true true e = (refl, refl, refl)
-not_refused true true false e = let z : ◌≡◌ {A = ℕ} 0 1 = cc in absurd (omega arith)
-not_refused true false c e = let z : ◌≡◌ {A = ℕ} 0 1 = cc in absurd (omega arith)
-not_refused false b c e = let z : ◌≡◌ {A = ℕ} 0 1 = cc in absurd (omega arith)
-
 -- the wire after a sample
 notice_kept : (who : Identity) (v : ℕ) → (1 ≤ v) × (v ≤ 63) → NoticeKept (noticing who v)
-notice_kept who v fair = record { some_value = fair.0; value_low = fair.1 }
+notice_kept who v fair = grind (arith, common_steps)
 
 wire_kept : (room : Bool) (who : Identity) (s : Showing) (ns : List Notice) → Fair s → AllByRecursion NoticeKept ns → AllByRecursion NoticeKept (wire_posted room who s ns)
-wire_kept room who showing.Unsampled ns fair all = all
-wire_kept room who showing.Quiet ns fair all = all
-wire_kept room who (showing.Notice v) ns fair all =
-    cond_both room (ns ++ (noticing who v ∷ [])) ns (AllByRecursion NoticeKept) (λ _. All-push NoticeKept ns (noticing who v) all (notice_kept who v fair)) (λ _. all)
+wire_kept room who s ns fair all = grind (arith, common_steps)
 
 wire_fits : (places : ℕ) (who : Identity) (s : Showing) (ns : List Notice) → length ns ≤ places → length (wire_posted (ltb (length ns) places) who s ns) ≤ places
-wire_fits places who showing.Unsampled ns fit = fit
-wire_fits places who showing.Quiet ns fit = fit
-wire_fits places who (showing.Notice v) ns fit =
-    cond_both (ltb (length ns) places) (ns ++ (noticing who v ∷ [])) ns (λ (ms : List Notice). length ms ≤ places) (λ e. omega (arith, ltb-true (length ns) places e, length_push ns (noticing who v))) (λ _. fit)
+wire_fits places who s ns fit = grind (arith, common_steps)
 
 module _ (K : Constants) (t : Tally) (who : Identity) (n : ℕ) where
-  -- what an offer that is not refused is
+  -- an offer that is not refused has a lawful length and room, and passes
   pub record Admitted : Type 0 where
     pub not_long : n ≤ 2000
     pub room : length t.frames < K.frame_places
     pub passed : passes K.settings.figures n who t.slots ≡ true
 
   pub admitted : offer_refused K t who n ≡ None → Admitted
-  admitted e =
-      let c = not_refused (lawful_length n) (ltb (length t.frames) K.frame_places) (passes K.settings.figures n who t.slots) e in
-      record { not_long = leb-true n 2000 (and_parts (leb 64 n) (leb n 2000) c.0).1; room = ltb-true _ _ c.1; passed = c.2 }
+  admitted e = grind (arith, common_steps)
 
   mark_low : Kept K t.slots → (offered_frame K t who n).mark ≤ 63
   mark_low k = sent_low K.rule K.settings.figures n (limiter_of who t.slots) (at_found Low (omega arith) t.slots (serving who t.slots) k.held_low)

@@ -1,26 +1,22 @@
 -- Every notice that is made is overrun, waits, or was taken off and applied or unplaced; they are taken off in the order made.
-use Rattle.std.proofs.Common.{◌≡◌, ℕ, ◌+◌, Bool, true, false, eqb, leb, List, [], ◌∷◌, ◌++◌, length, take, Some, None, Ok, Err, sum_by, Option, Result, sym, refl, ap, ◌∙◌, append_assoc, append-nil, arith, length-append}
+use Rattle.std.proofs.lemmas.Grind.{common_steps}
+use Rattle.std.proofs.Common.{◌≡◌, ℕ, ◌+◌, Bool, List, [], ◌∷◌, ◌++◌, length, sum_by, Option, Result, sym, refl, ap, ◌∙◌, append_assoc, append-nil, arith}
 use Rattle.std.proofs.lemmas.List.Sums.{sum_by-cons}
-use Rattle.std.proofs.lemmas.Bool.{cond_both, eqb-true}
 use Rattle.std.specs.List.{flat_map, AllByRecursion}
 use Rattle.record.specs.Decoded.{decoded}
 use Rattle.record.specs.declared.Record.{Record}
 use Rattle.record.specs.declared.faults.ReadFault.{ReadFault}
-use Rattle.notifiers.specs.declared.shown.Showing.{Showing}
-use Rattle.notifiers.specs.declared.shown.Showing.TheVariants as showing
-use Rattle.limiters.specs.Place.{placed, slots_after}
 use Rattle.limiters.specs.declared.limiter.Identity.{Identity}
 use Rattle.limiters.specs.declared.limiter.Limiter.{Limiter}
-use Rattle.tally.specs.declared.call.Outcome.TheVariants.{Ignored}
 use Rattle.tally.specs.declared.fault.CallFault.{CallFault}
 use Rattle.tally.specs.declared.frame.Frame.{Frame}
 use Rattle.tally.specs.declared.notice.Notice.{Notice}
-use Rattle.tally.specs.Counts.{made_by, overrun_by, applied_by, unplaced_by, made_at, overrun_at, applied_at, unplaced_at, joining, joins_at, takes_at}
+use Rattle.tally.specs.Counts.{applied_by, unplaced_by, made_at, overrun_at, applied_at, unplaced_at, joins_at, takes_at}
 use Rattle.tally.specs.Heeding.{outcome_at}
-use Rattle.tally.specs.Offering.{unless, moved_unless, posted, wire_posted, noticing, offer_refused, offer_showing, wire_room, offer_moved}
+use Rattle.tally.specs.Offering.{unless, moved_unless, posted, offer_refused, offer_showing, wire_room, offer_moved}
 use Rattle.tally.specs.Runs.{Moment, Run}
 use Rattle.tally.specs.Sound.{Sound, NoticeKept}
-use Rattle.tally.specs.Steps.{Asked, offer, leave, deliver, receive, wait, told_offer, told_leave, told_notice, told_wait, left_from, delivered_from, delivered_after, received_from, received_after, wait_answer, outcome, longest_wait}
+use Rattle.tally.specs.Steps.{Asked, offer, leave, deliver, receive, wait, told_offer, told_leave, told_notice, told_wait, left_from, delivered_from, delivered_after, received_from, received_after, outcome}
 use Rattle.tally.specs.Tally.{Constants, Tally}
 use Rattle.tally.proofs.Walking.{moment}
 
@@ -29,67 +25,38 @@ pub record Accounted (m : Moment) : Type 0 where
   pub counts : length m.before.notices + made_at m ≡ applied_at m + unplaced_at m + overrun_at m + length m.after.notices
   pub order : m.before.notices ++ joins_at m ≡ takes_at m ++ m.after.notices
 
--- what is posted is counted, and joins
-posted_counts : (room : Bool) (who : Identity) (s : Showing) (ns : List Notice) → length ns + made_by (posted room s) ≡ overrun_by (posted room s) + length (wire_posted room who s ns)
-posted_counts room who showing.Unsampled ns = omega arith
-posted_counts room who showing.Quiet ns = omega arith
-posted_counts true who (showing.Notice v) ns = let long = length-append ns (noticing who v ∷ []) in omega arith
-posted_counts false who (showing.Notice v) ns = omega arith
-
-posted_joins : (room : Bool) (who : Identity) (s : Showing) (ns : List Notice) → ns ++ joining who (posted room s) ≡ wire_posted room who s ns
-posted_joins room who showing.Unsampled ns = append-nil ns
-posted_joins room who showing.Quiet ns = append-nil ns
-posted_joins true who (showing.Notice v) ns = refl
-posted_joins false who (showing.Notice v) ns = append-nil ns
-
 offered : (K : Constants) (t : Tally) (who : Identity) (n : ℕ) (sampled : Bool) (r : Option CallFault)
     → Accounted (record { before = t; asked = offer who n; answer = told_offer (unless r (posted (wire_room K t who n sampled) (offer_showing K t who n sampled))); after = moved_unless r t (offer_moved K t who n sampled) })
-offered K t who n sampled None = record {
-  counts = let e = posted_counts (wire_room K t who n sampled) who (offer_showing K t who n sampled) t.notices in omega arith;
-  order = posted_joins (wire_room K t who n sampled) who (offer_showing K t who n sampled) t.notices;
-}
-offered K t who n sampled (Some e) = record { counts = omega arith; order = append-nil t.notices }
+offered K t who n sampled r = grind (arith, common_steps)
 
 -- a notice with a value is applied or unplaced
 settles : (who : Identity) (after : List Limiter) (o : Option ℕ) → applied_by (outcome_at who after o) + unplaced_by (outcome_at who after o) ≡ 1
-settles who after (Some i) = refl
-settles who after None = refl
+settles who after o = grind (arith, common_steps)
 
 settled : (K : Constants) (t : Tally) (n : Notice) → NoticeKept n → applied_by (outcome K t n) + unplaced_by (outcome K t n) ≡ 1
-settled K t n kept =
-    let after = slots_after K.rule K.settings.figures n.to n.value t.cursor t.slots in
-    cond_both (eqb n.value 0) Ignored (outcome_at n.to after (placed n.to t.cursor t.slots)) (λ o. applied_by o + unplaced_by o ≡ 1)
-    (λ e. absurd (omega (arith, eqb-true n.value 0 e, kept.some_value)))
-    (λ _. settles n.to after (placed n.to t.cursor t.slots))
+settled K t n kept = grind (arith, common_steps)
 
 delivered : (K : Constants) (t : Tally) (ns : List Notice) → t.notices ≡ ns → AllByRecursion NoticeKept ns
     → Accounted (record { before = t; asked = deliver; answer = told_notice (delivered_from K t ns); after = delivered_after K t ns })
-delivered K t [] is kept = record { counts = omega arith; order = append-nil t.notices }
-delivered K t (n ∷ ns) is kept = record {
-  counts = let e = settled K t n kept.0 in let long = ap length is in omega arith;
-  order = append-nil t.notices ∙ is ∙ ap (λ l. take 1 l ++ ns) (sym is);
-}
+delivered K t ns is kept = grind (arith, common_steps)
 
 -- no other call makes, takes off or overruns one
 left : (t u : Tally) (r : Result Frame CallFault) → u.notices ≡ t.notices → Accounted (record { before = t; asked = leave; answer = told_leave r; after = u })
-left t u (Ok x) is = record { counts = let e = ap length is in omega arith; order = append-nil t.notices ∙ sym is }
-left t u (Err x) is = record { counts = let e = ap length is in omega arith; order = append-nil t.notices ∙ sym is }
+left t u r is = grind (arith, common_steps)
 
 waited : (t u : Tally) (n : ℕ) (r : Result ℕ CallFault) → u.notices ≡ t.notices → Accounted (record { before = t; asked = wait n; answer = told_wait r; after = u })
-waited t u n (Ok x) is = record { counts = let e = ap length is in omega arith; order = append-nil t.notices ∙ sym is }
-waited t u n (Err x) is = record { counts = let e = ap length is in omega arith; order = append-nil t.notices ∙ sym is }
+waited t u n r is = grind (arith, common_steps)
 
 received : (K : Constants) (t : Tally) (bytes : List ℕ) (r : Result Record ReadFault)
     → Accounted (record { before = t; asked = receive bytes; answer = told_notice (received_from K t r); after = received_after K t r })
-received K t bytes (Ok x) = record { counts = omega arith; order = append-nil t.notices }
-received K t bytes (Err e) = record { counts = omega arith; order = append-nil t.notices }
+received K t bytes r = grind (arith, common_steps)
 
 pub accounted : (K : Constants) (t : Tally) (a : Asked) (sampled : Bool) → Sound K t → Accounted (moment K t a sampled)
 accounted K t (offer who n) sampled sound = offered K t who n sampled (offer_refused K t who n)
 accounted K t leave sampled sound = left t _ (left_from t.frames) refl
 accounted K t deliver sampled sound = delivered K t t.notices refl sound.notices_kept
 accounted K t (receive bytes) sampled sound = received K t bytes (decoded bytes)
-accounted K t (wait n) sampled sound = waited t _ n (wait_answer K t n) (cond_both (leb n longest_wait) _ t (λ u. u.notices ≡ t.notices) (λ _. refl) (λ _. refl))
+accounted K t (wait n) sampled sound = grind (arith, common_steps)
 
 -- over a run
 pub run_counts : (K : Constants) (ms : List Moment) (t u : Tally) → AllByRecursion Accounted ms → Run K t ms u

@@ -1,45 +1,32 @@
 -- Rates are in bounds, and an applied notice lowers its flow's rate.
+use Rattle.std.proofs.lemmas.Grind.{common_steps}
 use Rattle.std.proofs.Common.{◌≡◌, ℕ, ◌<◌, ◌≤◌, Bool, true, false, cond, eqb, List, [], ◌∷◌, get_or, Some, Ok, Err, Option, Result, refl, arith}
 use Rattle.std.proofs.lemmas.Bool.{eqb-false}
 use Rattle.std.specs.List.{AllByRecursion}
 use Rattle.record.specs.Decoded.{decoded}
 use Rattle.record.specs.declared.Record.{Record}
 use Rattle.record.specs.declared.faults.ReadFault.{ReadFault}
-use Rattle.rates.specs.Conditions.{raisable_parts}
 use Rattle.rates.specs.Rule.{Falls}
-use Rattle.limiters.specs.Bounds.{Within}
 use Rattle.limiters.specs.Pass.{limiter_of}
 use Rattle.limiters.specs.Place.{slots_after, placed}
 use Rattle.limiters.specs.Table.{serving, first_free}
-use Rattle.limiters.specs.Wait.{rates_of}
 use Rattle.limiters.specs.declared.limiter.Limiter.{Limiter}
-use Rattle.limiters.specs.declared.limiter.Limiter.TheVariants.{Free, InService}
+use Rattle.limiters.specs.declared.limiter.Limiter.TheVariants.{Free}
 use Rattle.tally.proofs.Hearing.{lowered}
 use Rattle.tally.proofs.Severities.{value_low}
 use Rattle.tally.proofs.Tables.{kept_of, kept_heard}
 use Rattle.tally.specs.declared.call.Answer.TheVariants.{Heard}
-use Rattle.tally.specs.declared.call.Offered.{Offered}
-use Rattle.tally.specs.declared.call.Outcome.{Outcome}
 use Rattle.tally.specs.declared.call.Outcome.TheVariants.{Applied, Ignored}
-use Rattle.tally.specs.declared.fault.CallFault.{CallFault}
-use Rattle.tally.specs.declared.frame.Frame.{Frame}
 use Rattle.tally.specs.declared.notice.Notice.{Notice}
 use Rattle.tally.specs.Heeding.{outcome_at}
-use Rattle.tally.specs.Offering.{offer_answer}
 use Rattle.tally.specs.Promises.{InRates, rate_in, flow_rate, oldest, in_record, Lowers}
 use Rattle.tally.specs.Sound.{NoticeKept, Sound}
-use Rattle.tally.specs.Steps.{Asked, offer, leave, deliver, receive, wait, notice_in, heeding, outcome, delivered_from, delivered_after, received_from, received_after, left_from, wait_answer, told_offer, told_leave, told_notice, told_wait, answer_to, tally_after}
+use Rattle.tally.specs.Steps.{Asked, offer, leave, deliver, receive, wait, notice_in, heeding, outcome, delivered_from, delivered_after, received_from, received_after, told_notice, answer_to, tally_after}
 use Rattle.tally.specs.Tally.{Constants, Tally}
 
 module _ (K : Constants) where
-  in_rates : (l : Limiter) → Within K.rule K.settings.figures l → InRates K l
-  in_rates Free h = tt
-  in_rates (InService r) h =
-      let p = raisable_parts K.rule.floor K.settings.figures.line_rate (rates_of r) h.ready in
-      record { from_floor = p.in_line.from_floor; ordered = p.ordered; to_line = p.in_line.to_line }
-
   pub rates_of_sound : (t : Tally) → Sound K t → (i : ℕ) → i < 64 → InRates K (get_or t.slots i Free)
-  rates_of_sound t s i inside = in_rates (get_or t.slots i Free) (s.within i inside)
+  rates_of_sound t s i inside = grind (arith, common_steps)
 
   -- a notice that arrives at a sound tally
   module _ (t : Tally) (s : Sound K t) (n : Notice) (few : n.value ≤ 63) (slot now' : ℕ) where
@@ -50,7 +37,7 @@ module _ (K : Constants) where
     Lower after = (rate_in K (limiter_of n.to after) ≡ now') × Falls K.rule.floor (flow_rate K n.to t) now'
 
     by_value : (b : Bool) → eqb n.value 0 ≡ b → cond b Ignored (outcome_at n.to heard_slots (placed n.to t.cursor t.slots)) ≡ Applied slot now' → Lower (cond b t.slots heard_slots)
-    by_value true e is = let z : ◌≡◌ {A = ℕ} 0 1 = cc in absurd (omega arith)
+    by_value true e is = cc
     by_value false e is =
         let some : 1 ≤ n.value = omega (arith, eqb-false n.value 0 e) in
         let k = kept_of K t s in
@@ -64,34 +51,21 @@ module _ (K : Constants) where
   Shows t now' o after = (n : Notice) × (o ≡ Some n) × (flow_rate K n.to after ≡ now') × Falls K.rule.floor (flow_rate K n.to t) now'
 
   module _ (t : Tally) (s : Sound K t) (slot now' : ℕ) where
-    delivered_lowers : (ns : List Notice) → AllByRecursion NoticeKept ns → told_notice (delivered_from K t ns) ≡ Heard (Applied slot now') → Shows t now' (oldest ns) (delivered_after K t ns)
-    delivered_lowers [] all is = let z : ◌≡◌ {A = ℕ} 0 1 = cc in absurd (omega arith)
+    delivered_lowers : (ns : List Notice) → AllByRecursion NoticeKept ns → told_notice (delivered_from K t ns) ≡ Ok (Heard (Applied slot now')) → Shows t now' (oldest ns) (delivered_after K t ns)
+    delivered_lowers [] all is = cc
     delivered_lowers (n ∷ ns) all is =
         let h = heeding_lowers t s n all.0.value_low slot now' ns (cc) in
         (n, refl, h.0, h.1)
 
-    received_lowers : (bytes : List ℕ) (r : Result Record ReadFault) → decoded bytes ≡ r → told_notice (received_from K t r) ≡ Heard (Applied slot now') → Shows t now' (in_record r) (received_after K t r)
+    received_lowers : (bytes : List ℕ) (r : Result Record ReadFault) → decoded bytes ≡ r → told_notice (received_from K t r) ≡ Ok (Heard (Applied slot now')) → Shows t now' (in_record r) (received_after K t r)
     received_lowers bytes (Ok x) e is =
         let h = heeding_lowers t s (notice_in x) (value_low bytes x e) slot now' t.notices (cc) in
         (notice_in x, refl, h.0, h.1)
-    received_lowers bytes (Err x) e is = let z : ◌≡◌ {A = ℕ} 0 1 = cc in absurd (omega arith)
-
--- no other call answers so
-pub not_offer : (r : Result Offered CallFault) (o : Outcome) → told_offer r ≡ Heard o → ⊥
-not_offer (Ok x) o is = let z : ◌≡◌ {A = ℕ} 0 1 = cc in omega arith
-not_offer (Err e) o is = let z : ◌≡◌ {A = ℕ} 0 1 = cc in omega arith
-
-pub not_leave : (r : Result Frame CallFault) (o : Outcome) → told_leave r ≡ Heard o → ⊥
-not_leave (Ok x) o is = let z : ◌≡◌ {A = ℕ} 0 1 = cc in omega arith
-not_leave (Err e) o is = let z : ◌≡◌ {A = ℕ} 0 1 = cc in omega arith
-
-pub not_wait : (r : Result ℕ CallFault) (o : Outcome) → told_wait r ≡ Heard o → ⊥
-not_wait (Ok x) o is = let z : ◌≡◌ {A = ℕ} 0 1 = cc in omega arith
-not_wait (Err e) o is = let z : ◌≡◌ {A = ℕ} 0 1 = cc in omega arith
+    received_lowers bytes (Err x) e is = cc
 
 pub lowers_step : (K : Constants) (t : Tally) (a : Asked) (sampled : Bool) → Sound K t → Lowers K (record { before = t; asked = a; answer = answer_to K t a sampled; after = tally_after K t a sampled })
-lowers_step K t (offer who n) sampled s slot now' is = absurd (not_offer (offer_answer K t who n sampled) (Applied slot now') is)
-lowers_step K t leave sampled s slot now' is = absurd (not_leave (left_from t.frames) (Applied slot now') is)
+lowers_step K t (offer who n) sampled s slot now' is = grind (arith, common_steps)
+lowers_step K t leave sampled s slot now' is = grind (arith, common_steps)
 lowers_step K t deliver sampled s slot now' is = delivered_lowers K t s slot now' t.notices s.notices_kept is
 lowers_step K t (receive bytes) sampled s slot now' is = received_lowers K t s slot now' bytes (decoded bytes) refl is
-lowers_step K t (wait n) sampled s slot now' is = absurd (not_wait (wait_answer K t n) (Applied slot now') is)
+lowers_step K t (wait n) sampled s slot now' is = grind (arith, common_steps)

@@ -1,18 +1,16 @@
 -- The bytes counted since the last sample are those that the tally holds.
-use Rattle.std.proofs.Common.{◌≡◌, ℕ, ◌+◌, Bool, true, false, cond, ◌&&◌, ◌||◌, eqb, leb, List, [], ◌∷◌, Some, None, Ok, Err, Option, Result, sym, refl, ap, ◌∙◌}
-use Rattle.std.proofs.lemmas.Bool.{cond_both}
+use Rattle.std.proofs.lemmas.Grind.{common_steps}
+use Rattle.std.proofs.Common.{◌≡◌, ℕ, Bool, List, [], ◌∷◌, Option, Result, sym, refl, ap, ◌∙◌, arith}
 use Rattle.record.specs.Decoded.{decoded}
 use Rattle.record.specs.declared.Record.{Record}
 use Rattle.record.specs.declared.faults.ReadFault.{ReadFault}
-use Rattle.notifiers.specs.Meter.{valued}
-use Rattle.notifiers.specs.declared.shown.Showing.TheVariants as showing
 use Rattle.limiters.specs.declared.limiter.Identity.{Identity}
 use Rattle.tally.specs.declared.fault.CallFault.{CallFault}
 use Rattle.tally.specs.declared.notice.Notice.{Notice}
-use Rattle.tally.specs.Counts.{since_offer, since_by, bytes_since}
-use Rattle.tally.specs.Offering.{unless, moved_unless, posted, offer_refused, offered_frame, offer_severity, offer_showing, wire_room, offer_moved}
+use Rattle.tally.specs.Counts.{since_by, bytes_since}
+use Rattle.tally.specs.Offering.{unless, moved_unless, posted, offer_refused, offer_showing, wire_room, offer_moved}
 use Rattle.tally.specs.Runs.{Moment, Run}
-use Rattle.tally.specs.Steps.{Asked, offer, leave, deliver, receive, wait, told_offer, delivered_after, received_after, longest_wait}
+use Rattle.tally.specs.Steps.{Asked, offer, leave, deliver, receive, wait, told_offer, delivered_after, received_after}
 use Rattle.tally.specs.Tally.{Constants, Tally}
 use Rattle.tally.proofs.Walking.{moment, at_step}
 
@@ -20,38 +18,22 @@ use Rattle.tally.proofs.Walking.{moment, at_step}
 abbrev pub Measured : Moment → Type 0
 Measured m = since_by m.before.since m.asked m.answer ≡ m.after.since
 
--- a sample counts anew, whatever it makes
-made_anew : (since n : ℕ) (room : Bool) (v : ℕ) → since_offer since n (posted room (showing.Notice v)) ≡ 0
-made_anew since n true v = refl
-made_anew since n false v = refl
-
-anew : (since n : ℕ) (room : Bool) (v : ℕ) (w : Bool) (k : ℕ) → since_offer since n (posted room (valued v w k)) ≡ 0
-anew since n room v w k = cond_both (eqb v 0 || (w && leb v k)) showing.Quiet (showing.Notice v) (λ s. since_offer since n (posted room s) ≡ 0) (λ _. refl) (λ _. made_anew since n room v)
-
-by_sample : (since n : ℕ) (room : Bool) (v : ℕ) (w : Bool) (k : ℕ) (sampled : Bool)
-    → since_offer since n (posted room (cond sampled (valued v w k) showing.Unsampled)) ≡ cond sampled 0 (since + n)
-by_sample since n room v w k true = anew since n room v w k
-by_sample since n room v w k false = refl
-
 offered : (K : Constants) (t : Tally) (who : Identity) (n : ℕ) (sampled : Bool) (r : Option CallFault)
     → since_by t.since (offer who n) (told_offer (unless r (posted (wire_room K t who n sampled) (offer_showing K t who n sampled)))) ≡ (moved_unless r t (offer_moved K t who n sampled)).since
-offered K t who n sampled None = by_sample t.since n (wire_room K t who n sampled) (offer_severity K t who n) K.withholds (offered_frame K t who n).mark sampled
-offered K t who n sampled (Some e) = refl
+offered K t who n sampled r = grind (arith, common_steps)
 
 delivered : (K : Constants) (t : Tally) (ns : List Notice) → t.since ≡ (delivered_after K t ns).since
-delivered K t [] = refl
-delivered K t (n ∷ ns) = refl
+delivered K t ns = grind (arith, common_steps)
 
 received : (K : Constants) (t : Tally) (r : Result Record ReadFault) → t.since ≡ (received_after K t r).since
-received K t (Ok x) = refl
-received K t (Err e) = refl
+received K t r = grind (arith, common_steps)
 
 pub measured : (K : Constants) (t : Tally) (a : Asked) (sampled : Bool) → Measured (moment K t a sampled)
 measured K t (offer who n) sampled = offered K t who n sampled (offer_refused K t who n)
 measured K t leave sampled = refl
 measured K t deliver sampled = delivered K t t.notices
 measured K t (receive bytes) sampled = received K t (decoded bytes)
-measured K t (wait n) sampled = cond_both (leb n longest_wait) _ t (λ u. t.since ≡ u.since) (λ _. refl) (λ _. refl)
+measured K t (wait n) sampled = grind (arith, common_steps)
 
 -- over a run
 pub run_since : (K : Constants) (ms : List Moment) (t u : Tally) → Run K t ms u → bytes_since t.since ms ≡ u.since

@@ -1,5 +1,6 @@
 -- While one slot serves a flow, the flow's frames are charged no more than full credit and what the slot earned.
-use Rattle.std.proofs.Common.{◌≡◌, ℕ, ◌+◌, ◌<◌, ◌≤◌, Bool, true, false, cond, eqb, ltb, leb, List, [], ◌∷◌, length, get_or, Some, None, Ok, Err, sum_by, Option, Result, sym, refl, ap, subst, arith}
+use Rattle.std.proofs.lemmas.Grind.{common_steps}
+use Rattle.std.proofs.Common.{◌≡◌, ℕ, ◌+◌, ◌<◌, ◌≤◌, Bool, true, false, cond, eqb, leb, List, [], ◌∷◌, length, get_or, Some, None, Ok, Err, sum_by, Option, Result, sym, refl, ap, subst, arith}
 use Rattle.std.proofs.lemmas.List.{get_or-map}
 use Rattle.std.proofs.lemmas.List.Sums.{sum_by-cons}
 use Rattle.std.proofs.lemmas.Bool.{cond_both, eqb-true}
@@ -18,19 +19,18 @@ use Rattle.limiters.specs.Wait.{micros}
 use Rattle.limiters.specs.declared.limiter.Identity.{Identity}
 use Rattle.limiters.specs.declared.limiter.Limiter.{Limiter}
 use Rattle.limiters.specs.declared.limiter.Limiter.TheVariants.{Free}
-use Rattle.limiters.specs.declared.table.searching.Sought.TheVariants.{Serving}
 use Rattle.tally.specs.declared.fault.CallFault.{CallFault}
-use Rattle.tally.specs.declared.fault.CallFault.TheVariants.{Length, Full, Pace}
 use Rattle.tally.specs.declared.notice.Notice.{Notice}
 use Rattle.tally.specs.Counts.{charged_at, earned_at}
-use Rattle.tally.specs.Offering.{unless, moved_unless, posted, lawful_length, offer_refused, offer_showing, wire_room, offer_moved}
+use Rattle.tally.specs.Offering.{unless, moved_unless, posted, offer_refused, offer_showing, wire_room, offer_moved}
 use Rattle.tally.specs.Promises.{Serves}
 use Rattle.tally.specs.Runs.{Moment, Run}
 use Rattle.tally.specs.Sound.{Sound}
 use Rattle.tally.specs.Steps.{Asked, offer, leave, deliver, receive, wait, notice_in, heeding, told_offer, told_notice, told_wait, delivered_from, delivered_after, received_from, received_after, waited, longest_wait}
 use Rattle.tally.specs.Tally.{Constants, Tally}
-use Rattle.tally.proofs.Credits.{full, notice_kept, frame_less, frame_pays}
+use Rattle.tally.proofs.Credits.{notice_kept, frame_less, frame_pays}
 use Rattle.tally.proofs.Finding.{serving_found}
+use Rattle.tally.proofs.Accepting.{admitted}
 use Rattle.tally.proofs.Walking.{moment}
 
 abbrev identity : ℕ → Identity
@@ -45,36 +45,29 @@ abbrev pub Paid : Constants → Identity → ℕ → Moment → Type 0
 Paid K who i m = Serves who i m → credit_at i m.after + charged_at who m ≤ credit_at i m.before + earned_at K i m
 
 pub slot_full : (K : Constants) (t : Tally) (i : ℕ) → Sound K t → i < 64 → credit_at i t ≤ full_credit
-slot_full K t i sound inside = full K.rule K.settings.figures (get_or t.slots i Free) (sound.within i inside)
-
--- what is not refused passes
-passed : (a b c : Bool) → cond a (cond b (cond c None (Some Pace)) (Some Full)) (Some Length) ≡ None → c ≡ true
-passed true true true e = refl
-passed true true false e = let z : ◌≡◌ {A = ℕ} 0 1 = cc in absurd (omega arith)
-passed true false c e = let z : ◌≡◌ {A = ℕ} 0 1 = cc in absurd (omega arith)
-passed false b c e = let z : ◌≡◌ {A = ℕ} 0 1 = cc in absurd (omega arith)
+slot_full K t i sound inside = grind (arith, common_steps)
 
 module _ (K : Constants) (t : Tally) (who : Identity) (i : ℕ) (sound : Sound K t) (inside : i < 64) where
   in_list : i < length t.slots
   in_list = omega (arith, sound.long)
 
   -- a frame of the flow
-  own_frame : (other : Identity) (n : ℕ) → who ≡ other → fits (Serving who) (get_or t.slots i Free) ≡ true → passes K.settings.figures n other t.slots ≡ true
-      → fits (Serving who) (get_or (sent_by K.rule K.settings.figures n t.slots (serving other t.slots)) i Free) ≡ true
+  own_frame : (other : Identity) (n : ℕ) → who ≡ other → fits (Some who) (get_or t.slots i Free) ≡ true → passes K.settings.figures n other t.slots ≡ true
+      → fits (Some who) (get_or (sent_by K.rule K.settings.figures n t.slots (serving other t.slots)) i Free) ≡ true
       → credit_of (get_or (sent_by K.rule K.settings.figures n t.slots (serving other t.slots)) i Free) + charge n ≤ credit_at i t
   own_frame other n same serves pass after =
-      let found = serving_found other i t.slots sound.long sound.single inside (subst (λ w. fits (Serving w) (get_or t.slots i Free) ≡ true) same serves) in
+      let found = serving_found other i t.slots sound.long sound.single inside (subst (λ w. fits (Some w) (get_or t.slots i Free) ≡ true) same serves) in
       let moved : Option ℕ → Limiter = λ o. get_or (sent_by K.rule K.settings.figures n t.slots o) i Free in
       subst (λ o. credit_of (moved o) + charge n ≤ credit_at i t) (sym found)
       (frame_pays K.rule K.settings.figures who n i t.slots in_list (sound.within i inside)
       (subst (λ o. may_pass K.settings.figures n (at_slot t.slots o) ≡ true) found pass)
-      (subst (λ o. fits (Serving who) (moved o) ≡ true) found after))
+      (subst (λ o. fits (Some who) (moved o) ≡ true) found after))
 
   offered : (other : Identity) (n : ℕ) (sampled : Bool) (r : Option CallFault) → r ≡ offer_refused K t other n
       → Paid K who i (record { before = t; asked = offer other n; answer = told_offer (unless r (posted (wire_room K t other n sampled) (offer_showing K t other n sampled))); after = moved_unless r t (offer_moved K t other n sampled) })
   offered other n sampled None is serves =
       let after : ℕ = credit_of (get_or (sent_by K.rule K.settings.figures n t.slots (serving other t.slots)) i Free) in
-      let pass = passed (lawful_length n) (ltb (length t.frames) K.frame_places) (passes K.settings.figures n other t.slots) (sym is) in
+      let pass = (admitted K t other n (sym is)).passed in
       let less = frame_less K.rule K.settings.figures n i t.slots (serving other t.slots) in_list in
       let pays : after + cond (eqb other.flow who.flow) (charge n) 0 ≤ credit_at i t =
       cond_both (eqb other.flow who.flow) (charge n) 0 (λ c. after + c ≤ credit_at i t)
@@ -84,7 +77,7 @@ module _ (K : Constants) (t : Tally) (who : Identity) (i : ℕ) (sound : Sound K
   offered other n sampled (Some e) is serves = omega arith
 
   -- a notice, whatever it is answered
-  heeded_credit : (n : Notice) (ns : List Notice) → fits (Serving who) (get_or t.slots i Free) ≡ true → credit_at i (heeding K t n ns) ≡ credit_at i t
+  heeded_credit : (n : Notice) (ns : List Notice) → fits (Some who) (get_or t.slots i Free) ≡ true → credit_at i (heeding K t n ns) ≡ credit_at i t
   heeded_credit n ns serves =
       cond_both (eqb n.value 0) t.slots _ (λ ls. credit_of (get_or ls i Free) ≡ credit_at i t) (λ _. refl)
       (λ _. notice_kept K.rule K.settings.figures who n.to n.value t.cursor i t.slots (serving n.to t.slots) (first_free t.cursor t.slots) in_list serves)

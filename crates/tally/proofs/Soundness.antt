@@ -1,5 +1,6 @@
 -- A tally is sound at opening, and every call keeps it so.
-use Rattle.std.proofs.Common.{◌≡◌, ℕ, ◌<◌, ◌≤◌, Bool, true, eqb, leb, List, [], ◌∷◌, length, get_or, replicate, Ok, Err, Result, sym, refl, subst, arith}
+use Rattle.std.proofs.lemmas.Grind.{common_steps}
+use Rattle.std.proofs.Common.{◌≡◌, ℕ, ◌<◌, ◌≤◌, Bool, true, eqb, leb, List, [], ◌∷◌, length, get_or, replicate, Ok, Err, Result, sym, refl, subst, arith, Some}
 use Rattle.std.proofs.lemmas.List.{length-replicate, get_or-replicate}
 use Rattle.std.proofs.lemmas.Bool.{cond_both, true≢false}
 use Rattle.std.specs.List.{AllByRecursion}
@@ -11,15 +12,14 @@ use Rattle.limiters.specs.Place.{slots_after, cursor_after}
 use Rattle.limiters.specs.Single.{Single}
 use Rattle.limiters.specs.Table.{fits, serving, first_free}
 use Rattle.limiters.specs.declared.limiter.Limiter.TheVariants.{Free}
-use Rattle.limiters.specs.declared.table.searching.Sought.TheVariants.{Serving}
 use Rattle.tally.proofs.Accepting.{sound_offered}
 use Rattle.tally.proofs.Severities.{value_low}
 use Rattle.tally.proofs.Slots.{Low, cursor_heard}
 use Rattle.tally.proofs.Tables.{Kept, kept_of, kept_heard, kept_waited, sound_from}
 use Rattle.tally.specs.declared.notice.Notice.{Notice}
 use Rattle.tally.specs.Runs.{Open}
-use Rattle.tally.specs.Sound.{FrameKept, NoticeKept, Sound}
-use Rattle.tally.specs.Steps.{Asked, offer, leave, deliver, receive, wait, without_first, leave_after, notice_in, heeding, delivered_after, received_after, waited, longest_wait, tally_after}
+use Rattle.tally.specs.Sound.{NoticeKept, Sound}
+use Rattle.tally.specs.Steps.{Asked, offer, leave, deliver, receive, wait, leave_after, notice_in, heeding, delivered_after, received_after, waited, longest_wait, tally_after}
 use Rattle.tally.specs.Tally.{Constants, Tally, opened}
 
 -- 64 free limiters
@@ -30,7 +30,7 @@ module _ (i : ℕ) (inside : i < 64) where
 free_single : Single (replicate 64 Free)
 free_single who j k in-j in-k serves-j serves-k =
     let low : j < 64 = omega (arith, length-replicate 64 Free) in
-    absurd (true≢false (sym (subst (λ l. fits (Serving who) l ≡ true) (free_at j low) serves-j)))
+    absurd (true≢false (sym (subst (λ l. fits (Some who) l ≡ true) (free_at j low) serves-j)))
 
 pub sound_opened : (K : Constants) (old : ℕ) → Sound K (opened old)
 sound_opened K old = record {
@@ -46,20 +46,9 @@ sound_opened K old = record {
   since_kept = omega arith;
 }
 
--- lists without their first
-first_off : {X : Type 0} (P : X → Type 0) (xs : List X) → AllByRecursion P xs → AllByRecursion P (without_first xs)
-first_off P [] all = tt
-first_off P (x ∷ xs) all = all.1
-
-first_off_fits : {X : Type 0} (xs : List X) (n : ℕ) → length xs ≤ n → length (without_first xs) ≤ n
-first_off_fits [] n fit = fit
-first_off_fits (x ∷ xs) n fit = omega arith
-
 module _ (K : Constants) (t : Tally) (s : Sound K t) where
   sound_left : Sound K (leave_after t)
-  sound_left =
-      sound_from K (leave_after t) (kept_of K t s) s.inside (first_off_fits t.frames K.frame_places s.frames_fit) (first_off FrameKept t.frames s.frames_kept)
-      s.notices_fit s.notices_kept s.since_kept
+  sound_left = grind (arith, common_steps)
 
   -- a notice arrives, and these are left
   pub sound_heeding : (n : Notice) (rest : List Notice) → n.value ≤ 63 → length rest ≤ K.wire_places → AllByRecursion NoticeKept rest → Sound K (heeding K t n rest)

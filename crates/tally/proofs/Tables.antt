@@ -1,6 +1,7 @@
 -- A notice, a frame and a wait keep the limiters of a sound tally.
+use Rattle.std.proofs.lemmas.Grind.{common_steps}
 use Rattle.std.proofs.Common.{◌≡◌, ℕ, ◌<◌, ◌≤◌, List, map, length, ◌∙◌, arith}
-use Rattle.std.proofs.ByRecursion.{All-get_or, All-from_get_or}
+use Rattle.std.proofs.ByRecursion.{All-from_get_or}
 use Rattle.std.proofs.lemmas.List.{length-map}
 use Rattle.std.specs.List.{AllByRecursion}
 use Rattle.settings.specs.declared.figures.Figures.{Figures}
@@ -39,18 +40,7 @@ module _ (K : Constants) where
 
   -- whatever holds the limiters, and the rest as it should be
   pub sound_from : (t : Tally) → Kept K t.slots → t.cursor < 64 → length t.frames ≤ K.frame_places → AllByRecursion FrameKept t.frames → length t.notices ≤ K.wire_places → AllByRecursion NoticeKept t.notices → t.since ≤ K.gap → Sound K t
-  sound_from t k inside frames_fit frames_kept notices_fit notices_kept since_kept = record {
-    long = k.long;
-    inside = inside;
-    within = λ i low. All-get_or (Within K.rule f) t.slots i Free (omega (arith, k.long)) k.within;
-    held_low = λ i low. All-get_or Low t.slots i Free (omega (arith, k.long)) k.held_low;
-    single = k.single;
-    frames_fit = frames_fit;
-    frames_kept = frames_kept;
-    notices_fit = notices_fit;
-    notices_kept = notices_kept;
-    since_kept = since_kept;
-  }
+  sound_from t k inside frames_fit frames_kept notices_fit notices_kept since_kept = grind (arith, common_steps)
 
   -- a notice, a frame and a wait keep the limiters
   pub kept_heard : (who : Identity) (v cursor : ℕ) (ls : List Limiter) → v ≤ 63 → Kept K ls → Kept K (slots_after K.rule f who v cursor ls)

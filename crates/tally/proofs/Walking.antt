@@ -1,10 +1,10 @@
 -- Runs: one more moment, a run in two parts, and what each step keeps over all of them.
-use Rattle.std.proofs.Common.{◌≡◌, Bool, true, List, [], ◌∷◌, ◌++◌, sym, refl, ◌∙◌, subst}
-use Rattle.std.proofs.lemmas.Bool.{true≢false}
+use Rattle.std.proofs.lemmas.Grind.{common_steps}
+use Rattle.std.proofs.Common.{◌≡◌, Bool, true, List, [], ◌∷◌, ◌++◌, sym, refl, ◌∙◌, subst, arith}
 use Rattle.std.specs.List.{AllByRecursion}
 use Rattle.tally.specs.Runs.{Moment, Open, Step, Run, Definite}
 use Rattle.tally.specs.Sound.{Sound}
-use Rattle.tally.specs.Steps.{Asked, offer, leave, deliver, receive, wait, answer_to, tally_after}
+use Rattle.tally.specs.Steps.{Asked, answer_to, tally_after}
 use Rattle.tally.specs.Tally.{Constants, Tally}
 use Rattle.tally.proofs.Soundness.{sound_step}
 
@@ -14,7 +14,7 @@ moment K t a sampled = record { before = t; asked = a; answer = answer_to K t a 
 
 -- what the rules' own moment has, every step has
 pub at_step : (K : Constants) (P : Moment → Type 0) (m : Moment) (s : Step K m) → P (moment K m.before m.asked s.sampled) → P m
-at_step K P m s h = let same : moment K m.before m.asked s.sampled ≡ m = λ i. record { before = m.before; asked = m.asked; answer = sym s.answers i; after = sym s.moves i } in subst P same h
+at_step K P m s h = grind (arith, common_steps)
 
 pub run_push : (K : Constants) (ms : List Moment) (t u : Tally) (m : Moment) → Run K t ms u → m.before ≡ u → Step K m → Run K t (ms ++ (m ∷ [])) m.after
 run_push K [] t u m run from step = (from ∙ sym run, step, refl)
@@ -25,11 +25,7 @@ run_split K [] ys t u run = (t, refl, run)
 run_split K (m ∷ xs) ys t u run = let rest = run_split K xs ys m.after u run.2 in (rest.0, (run.0, run.1, rest.1), rest.2)
 
 open_sampled : (K : Constants) (t : Tally) (a : Asked) → Open K t a true
-open_sampled K t (offer who n) = λ _ none. absurd (true≢false none)
-open_sampled K t leave = tt
-open_sampled K t deliver = tt
-open_sampled K t (receive bytes) = tt
-open_sampled K t (wait n) = tt
+open_sampled K t a = grind (arith, common_steps)
 
 pub definite : (K : Constants) → Definite K
 definite K = record {

@@ -1,15 +1,16 @@
 -- What is counted and listed over a run, from the calls and their answers.
-use Rattle.std.specs.Prelude.{ℕ, ◌+◌, cond, List, [], ◌∷◌, take, ◌==◌, slice_index_or}
+use Rattle.std.specs.Prelude.{ℕ, ◌+◌, cond, List, [], ◌∷◌, take, Ok, Err, Result, ◌==◌, slice_index_or}
 use Rattle.limiters.specs.Bounds.{earnings}
 use Rattle.limiters.specs.Step.{charge}
 use Rattle.limiters.specs.declared.limiter.Identity.{Identity}
 use Rattle.limiters.specs.declared.limiter.Limiter.TheVariants.{Free}
 use Rattle.tally.specs.declared.call.Answer.{Answer}
-use Rattle.tally.specs.declared.call.Answer.TheVariants.{Accepted, Left, Heard, Waited, Refused}
+use Rattle.tally.specs.declared.call.Answer.TheVariants.{Accepted, Left, Heard, Waited}
 use Rattle.tally.specs.declared.call.Offered.{Offered}
 use Rattle.tally.specs.declared.call.Offered.TheVariants.{Unsampled, Quiet, Waiting, Overrun}
 use Rattle.tally.specs.declared.call.Outcome.{Outcome}
 use Rattle.tally.specs.declared.call.Outcome.TheVariants.{Applied, Unplaced, Ignored}
+use Rattle.tally.specs.declared.fault.CallFault.{CallFault}
 use Rattle.tally.specs.declared.notice.Notice.{Notice}
 use Rattle.tally.specs.Offering.{noticing}
 use Rattle.tally.specs.Runs.{Moment}
@@ -17,19 +18,19 @@ use Rattle.tally.specs.Steps.{Asked, offer, leave, deliver, receive, wait}
 use Rattle.tally.specs.Tally.{Constants}
 
 -- What an answer says of an offer, and of a deliver; nothing where it is none of theirs.
-abbrev pub of_offer : {X : Type 0} → X → (Offered → X) → Answer → X
-of_offer none f (Accepted o) = f o
-of_offer none f (Left x) = none
-of_offer none f (Heard x) = none
-of_offer none f (Waited x) = none
-of_offer none f (Refused e) = none
+abbrev pub of_offer : {X : Type 0} → X → (Offered → X) → Result Answer CallFault → X
+of_offer none f (Ok (Accepted o)) = f o
+of_offer none f (Ok (Left x)) = none
+of_offer none f (Ok (Heard x)) = none
+of_offer none f (Ok (Waited x)) = none
+of_offer none f (Err e) = none
 
-abbrev pub of_notice : {X : Type 0} → X → (Outcome → X) → Answer → X
-of_notice none f (Accepted x) = none
-of_notice none f (Left x) = none
-of_notice none f (Heard o) = f o
-of_notice none f (Waited x) = none
-of_notice none f (Refused e) = none
+abbrev pub of_notice : {X : Type 0} → X → (Outcome → X) → Result Answer CallFault → X
+of_notice none f (Ok (Accepted x)) = none
+of_notice none f (Ok (Left x)) = none
+of_notice none f (Ok (Heard o)) = f o
+of_notice none f (Ok (Waited x)) = none
+of_notice none f (Err e) = none
 
 -- A notice that was made waits or is overrun.
 abbrev pub made_by : Offered → ℕ
@@ -62,7 +63,7 @@ abbrev pub overrun_at : Moment → ℕ
 overrun_at m = of_offer 0 overrun_by m.answer
 
 -- What a deliver says; a receive is not counted, since its notice was not made here.
-abbrev pub at_deliver : {X : Type 0} → X → (Outcome → X) → Asked → Answer → X
+abbrev pub at_deliver : {X : Type 0} → X → (Outcome → X) → Asked → Result Answer CallFault → X
 at_deliver none f (offer who n) a = none
 at_deliver none f leave a = none
 at_deliver none f deliver a = of_notice none f a
@@ -83,7 +84,7 @@ joining who Quiet = []
 joining who (Waiting v) = noticing who v ∷ []
 joining who (Overrun v) = []
 
-abbrev pub joins_by : Asked → Answer → List Notice
+abbrev pub joins_by : Asked → Result Answer CallFault → List Notice
 joins_by (offer who n) a = of_offer [] (joining who) a
 joins_by leave a = []
 joins_by deliver a = []
@@ -104,7 +105,7 @@ since_offer since n Quiet = 0
 since_offer since n (Waiting v) = 0
 since_offer since n (Overrun v) = 0
 
-abbrev pub since_by : ℕ → Asked → Answer → ℕ
+abbrev pub since_by : ℕ → Asked → Result Answer CallFault → ℕ
 since_by since (offer who n) a = of_offer since (since_offer since n) a
 since_by since leave a = since
 since_by since deliver a = since
@@ -116,7 +117,7 @@ bytes_since since [] = since
 bytes_since since (m ∷ ms) = bytes_since (since_by since m.asked m.answer) ms
 
 -- What a flow's accepted frame is charged at a moment.
-abbrev pub charged_by : Identity → Asked → Answer → ℕ
+abbrev pub charged_by : Identity → Asked → Result Answer CallFault → ℕ
 charged_by who (offer other n) a = of_offer 0 (λ _. cond (other.flow == who.flow) (charge n) 0) a
 charged_by who leave a = 0
 charged_by who deliver a = 0
@@ -127,14 +128,14 @@ abbrev pub charged_at : Identity → Moment → ℕ
 charged_at who m = charged_by who m.asked m.answer
 
 -- The microseconds that a call waited.
-abbrev pub of_wait : ℕ → Answer → ℕ
-of_wait n (Accepted x) = 0
-of_wait n (Left x) = 0
-of_wait n (Heard x) = 0
-of_wait n (Waited x) = n
-of_wait n (Refused e) = 0
+abbrev pub of_wait : ℕ → Result Answer CallFault → ℕ
+of_wait n (Ok (Accepted x)) = 0
+of_wait n (Ok (Left x)) = 0
+of_wait n (Ok (Heard x)) = 0
+of_wait n (Ok (Waited x)) = n
+of_wait n (Err e) = 0
 
-abbrev pub waited_by : Asked → Answer → ℕ
+abbrev pub waited_by : Asked → Result Answer CallFault → ℕ
 waited_by (offer who n) a = 0
 waited_by leave a = 0
 waited_by deliver a = 0

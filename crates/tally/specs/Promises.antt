@@ -14,7 +14,6 @@ use Rattle.limiters.specs.declared.limiter.Identity.{Identity}
 use Rattle.limiters.specs.declared.limiter.Limiter.{Limiter}
 use Rattle.limiters.specs.declared.limiter.Limiter.TheVariants.{Free, InService}
 use Rattle.limiters.specs.declared.limiter.Row.{Row}
-use Rattle.limiters.specs.declared.table.searching.Sought.TheVariants as sought
 use Rattle.tally.specs.declared.call.Answer.TheVariants.{Accepted, Heard}
 use Rattle.tally.specs.declared.call.Offered.{Offered}
 use Rattle.tally.specs.declared.call.Offered.TheVariants.{Unsampled, Quiet, Waiting, Overrun}
@@ -28,9 +27,9 @@ use Rattle.tally.specs.Tally.{Constants, Tally, opened, pages_waiting}
 
 -- A limiter in service has floor ≤ current ≤ target, and current ≤ the line rate.
 pub record RatesKept (K : Constants) (r : Row) : Type 0 where
-  pub from_floor : K.rule.floor ≤ r.current
-  pub ordered : r.current ≤ r.target
-  pub to_line : r.current ≤ K.settings.figures.line_rate
+  pub from_floor : K.rule.floor ≤ r.rates.current
+  pub ordered : r.rates.current ≤ r.rates.target
+  pub to_line : r.rates.current ≤ K.settings.figures.line_rate
 
 abbrev pub InRates : Constants → Limiter → Type 0
 InRates K Free = Unit {0}
@@ -39,7 +38,7 @@ InRates K (InService r) = RatesKept K r
 -- The rate that a flow is held to: its limiter's current rate, and the line rate without a limiter.
 abbrev pub rate_in : Constants → Limiter → ℕ
 rate_in K Free = K.settings.figures.line_rate
-rate_in K (InService r) = r.current
+rate_in K (InService r) = r.rates.current
 
 abbrev pub flow_rate : Constants → Identity → Tally → ℕ
 flow_rate K who t = rate_in K (limiter_of who t.slots)
@@ -63,18 +62,18 @@ notice_for t (wait n) = None
 -- An applied notice sets its flow's rate to what it answers: lower than before unless that was the floor, and at least half.
 abbrev pub Lowers : Constants → Moment → Type 0
 Lowers K m =
-    (slot now' : ℕ) → m.answer ≡ Heard (Applied slot now')
+    (slot now' : ℕ) → m.answer ≡ Ok (Heard (Applied slot now'))
     → (n : Notice) × (notice_for m.before m.asked ≡ Some n) × (flow_rate K n.to m.after ≡ now') × Falls K.rule.floor (flow_rate K n.to m.before) now'
 
 -- A notice is unplaced only where every limiter is in service; the answer names the flow of the notice that the call is about.
 abbrev pub Crowded : Moment → Type 0
 Crowded m =
-    (who : Identity) → m.answer ≡ Heard (Unplaced who)
-    → (n : Notice) × (notice_for m.before m.asked ≡ Some n) × (n.to ≡ who) × ((i : ℕ) → i < 64 → fits sought.Free (slice_index_or m.before.slots i Free) ≡ false)
+    (who : Identity) → m.answer ≡ Ok (Heard (Unplaced who))
+    → (n : Notice) × (notice_for m.before m.asked ≡ Some n) × (n.to ≡ who) × ((i : ℕ) → i < 64 → fits None (slice_index_or m.before.slots i Free) ≡ false)
 
 -- One slot serves a flow before and after a call.
 abbrev pub Serves : Identity → ℕ → Moment → Type 0
-Serves who i m = (fits (sought.Serving who) (slice_index_or m.before.slots i Free) ≡ true) × (fits (sought.Serving who) (slice_index_or m.after.slots i Free) ≡ true)
+Serves who i m = (fits (Some who) (slice_index_or m.before.slots i Free) ≡ true) × (fits (Some who) (slice_index_or m.after.slots i Free) ≡ true)
 
 -- A sample, and the notice that it made.
 abbrev pub Sampled : Offered → Type 0
@@ -92,7 +91,7 @@ Makes v (Overrun w) = w ≡ v
 -- A sample whose severity, by the pages that wait and the old before, is above its frame's mark made a notice of exactly that severity.
 abbrev pub Told : Constants → Moment → Type 0
 Told K m =
-    (o : Offered) (f : Frame) → m.answer ≡ Accepted o → m.after.frames ≡ m.before.frames ++ (f ∷ []) → Sampled o
+    (o : Offered) (f : Frame) → m.answer ≡ Ok (Accepted o) → m.after.frames ≡ m.before.frames ++ (f ∷ []) → Sampled o
     → f.mark < severity K.settings.figures.set_point K.settings.figures.weight (pages_waiting m.after.frames) m.before.old
     → Makes (severity K.settings.figures.set_point K.settings.figures.weight (pages_waiting m.after.frames) m.before.old) o
 

@@ -1,6 +1,7 @@
 -- Runs: calls in a row, each from the tally that the one before left.
-use Rattle.std.specs.Prelude.{◌≡◌, ◌+◌, ◌≤◌, Bool, false, List, [], ◌∷◌, None}
+use Rattle.std.specs.Prelude.{◌≡◌, ◌+◌, ◌≤◌, Bool, false, List, [], ◌∷◌, None, Result}
 use Rattle.tally.specs.declared.call.Answer.{Answer}
+use Rattle.tally.specs.declared.fault.CallFault.{CallFault}
 use Rattle.tally.specs.Offering.{offer_refused}
 use Rattle.tally.specs.Steps.{Asked, offer, leave, deliver, receive, wait, answer_to, tally_after}
 use Rattle.tally.specs.Tally.{Constants, Tally}
@@ -9,7 +10,7 @@ use Rattle.tally.specs.Tally.{Constants, Tally}
 pub record Moment : Type 0 where
   pub before : Tally
   pub asked : Asked
-  pub answer : Answer
+  pub answer : Result Answer CallFault
   pub after : Tally
 
 -- Not to sample an accepted frame is open only where the bytes since the last sample stay within the gap.

@@ -95,25 +95,25 @@ module _ (K : Constants) (t : Tally) where
   abbrev pub wait_after : ℕ → Tally
   wait_after n = cond (nat_le n longest_wait) (waited n) t
 
--- An answer of one call as the answer of any.
-abbrev pub told_offer : Result Offered CallFault → Answer
-told_offer (Ok x) = answer.Accepted x
-told_offer (Err e) = answer.Refused e
+-- An answer of one call as the answer of any: a refusal stays what it is.
+abbrev pub told : {X : Type 0} → (X → Answer) → Result X CallFault → Result Answer CallFault
+told kind (Ok x) = Ok (kind x)
+told kind (Err e) = Err e
 
-abbrev pub told_leave : Result Frame CallFault → Answer
-told_leave (Ok x) = answer.Left x
-told_leave (Err e) = answer.Refused e
+abbrev pub told_offer : Result Offered CallFault → Result Answer CallFault
+told_offer r = told answer.Accepted r
 
-abbrev pub told_notice : Result Outcome CallFault → Answer
-told_notice (Ok x) = answer.Heard x
-told_notice (Err e) = answer.Refused e
+abbrev pub told_leave : Result Frame CallFault → Result Answer CallFault
+told_leave r = told answer.Left r
 
-abbrev pub told_wait : Result ℕ CallFault → Answer
-told_wait (Ok x) = answer.Waited x
-told_wait (Err e) = answer.Refused e
+abbrev pub told_notice : Result Outcome CallFault → Result Answer CallFault
+told_notice r = told answer.Heard r
+
+abbrev pub told_wait : Result ℕ CallFault → Result Answer CallFault
+told_wait r = told answer.Waited r
 
 -- Whichever call it is: only an offer asks whether the notifier samples.
-abbrev pub answer_to : Constants → Tally → Asked → Bool → Answer
+abbrev pub answer_to : Constants → Tally → Asked → Bool → Result Answer CallFault
 answer_to K t (offer who n) sampled = told_offer (offer_answer K t who n sampled)
 answer_to K t leave sampled = told_leave (left_from t.frames)
 answer_to K t deliver sampled = told_notice (delivered_from K t t.notices)

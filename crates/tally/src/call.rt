@@ -1,8 +1,7 @@
-use crate::fault::CallFault;
 use crate::frame::Frame;
 use limiters::limiter::Identity;
 
-// A call on a line, as a value.
+// A call on a line. It is a value, since what holds over runs speaks of lists of calls.
 #[derive(Clone, Copy)]
 pub enum Call<'a> {
     // A frame of a length, bytes.
@@ -39,7 +38,7 @@ pub enum Outcome {
     Ignored,
 }
 
-// What any of the calls answers.
+// What any of the calls answers, unless it is refused.
 #[derive(Clone, Copy)]
 pub enum Answer {
     Accepted(Offered),
@@ -47,5 +46,4 @@ pub enum Answer {
     Heard(Outcome),
     // How many expiries there were.
     Waited(u64),
-    Refused(CallFault),
 }

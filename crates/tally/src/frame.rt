@@ -4,7 +4,7 @@ ghost use Rattle.tally.specs.Tally.{pages};
 use limiters::limiter::Identity;
 
 // A page of the queue, bytes.
-const PAGE: u64 = 256;
+const PAGE: u32 = 256;
 
 // A frame that waits.
 #[derive(Clone, Copy)]
@@ -20,5 +20,5 @@ pub struct Frame {
 pub fn pages(length: u32) -> u32
     ensures answer { result ≡ pages length }
 {
-    ((length as u64 + (PAGE - 1)) / PAGE) as u32
+    length.div_ceil(PAGE)
 }

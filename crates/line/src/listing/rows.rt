@@ -2,6 +2,7 @@ ghost use Rattle.std.specs.Prelude.{◌≡◌, ◌+◌, ◌<◌, ◌≤◌, [], 
 
 use crate::listing::{ListedRow, Listing};
 use limiters::limiter::Identity;
+use limiters::table::SLOTS;
 
 impl Listing {
     pub(crate) fn empty() -> Listing
@@ -12,7 +13,7 @@ impl Listing {
             rows: [ListedRow {
                 slot: 0,
                 serves: Identity { flow: 0 },
-            }; 64],
+            }; SLOTS],
             count: 0,
         }
     }

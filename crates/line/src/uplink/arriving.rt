@@ -11,8 +11,8 @@ use limiters::limiter::{Identity, Limiter};
 use limiters::table::Table;
 use notifiers::notifier::Notifier;
 use rates::rate_rule::RateRule;
+use rates::regime::Regime;
 use record::read;
-use settings::accepted::Settings;
 use tally::call::Outcome;
 use tally::fault::CallFault;
 use tally::frame::Frame;
@@ -26,74 +26,36 @@ fn lawful(notice: Notice) -> Notice
     ensures answer { result ≡ lawful_notice notice }
 {
     Notice {
-        to: notice.to,
         value: notice.value.min(MOST_SEVERE),
+        ..notice
     }
 }
 
+// 0 for a free limiter, which a notice never leaves.
 fn current_of(limiter: Limiter) -> u32
     ensures answer { result ≡ current_of limiter }
 {
     match limiter {
         Limiter::Free => 0,
-        Limiter::InService(row) => row.current,
+        Limiter::InService(row) => row.rates.current,
     }
 }
 
 // A notice arrives.
-fn heed<R: RateRule>(table: &mut Table, rule: &R, settings: &Settings, notice: Notice) -> Outcome
-    ensures answer { result ≡ heeded (R.RateRule.meaning rule.now) settings.now.figures table.old.cursor table.old.slots notice }
-    ensures slots { table.new.slots ≡ slots_heeding (R.RateRule.meaning rule.now) settings.now.figures table.old.cursor table.old.slots notice }
-    ensures cursor { table.new.cursor ≡ cursor_heeding (R.RateRule.meaning rule.now) settings.now.figures table.old.cursor table.old.slots notice }
+fn heed<R: RateRule>(table: &mut Table, regime: &Regime<R>, notice: Notice) -> Outcome
+    ensures answer { result ≡ heeded (R.RateRule.meaning regime.now.rule) regime.now.settings.figures table.old.cursor table.old.slots notice }
+    ensures slots { table.new.slots ≡ slots_heeding (R.RateRule.meaning regime.now.rule) regime.now.settings.figures table.old.cursor table.old.slots notice }
+    ensures cursor { table.new.cursor ≡ cursor_heeding (R.RateRule.meaning regime.now.rule) regime.now.settings.figures table.old.cursor table.old.slots notice }
 {
     if notice.value == 0 {
         return Outcome::Ignored;
     }
-    match table.notice(rule, settings, notice.to, notice.value) {
+    match table.notice(regime, notice.to, notice.value) {
         Some(slot) => Outcome::Applied {
             slot,
             current: current_of(table.limiter(slot)),
         },
         None => Outcome::Unplaced(notice.to),
-    }
-}
-
-impl<R: RateRule, N> Line<R, N> {
-    // Takes the oldest notice off, and lets it arrive.
-    fn hand_over(&mut self, frames: &[Frame], wire: &[Notice]) -> Result<Outcome, CallFault>
-        ensures answer { result ≡ deliver_answer R.RateRule (state self.old frames.now wire.now) }
-        ensures after { state self.new frames.now wire.now ≡ deliver_after R.RateRule (state self.old frames.now wire.now) }
-        ensures refused { OnErr result (state self.new frames.now wire.now ≡ state self.old frames.now wire.now) }
-    {
-        if !self.sized(frames, wire) {
-            return Err(CallFault::Memory);
-        }
-        match self.wire.pop(wire) {
-            Ok(notice) => Ok(heed(&mut self.table, &self.rule, &self.settings, lawful(notice))),
-            Err(_) => Err(CallFault::NoNotice),
-        }
-    }
-
-    // Lets a record's notice arrive.
-    fn read_in(
-        &mut self,
-        frames: &[Frame],
-        wire: &[Notice],
-        bytes: &[u8],
-    ) -> Result<Outcome, CallFault>
-        ensures answer { result ≡ receive_answer R.RateRule (state self.old frames.now wire.now) bytes.now }
-        ensures after { state self.new frames.now wire.now ≡ receive_after R.RateRule (state self.old frames.now wire.now) bytes.now }
-        ensures refused { OnErr result (state self.new frames.now wire.now ≡ state self.old frames.now wire.now) }
-    {
-        if !self.sized(frames, wire) {
-            return Err(CallFault::Memory);
-        }
-        let record = read(bytes)?;
-        let notice = Notice {
-            to: Identity { flow: record.flow },
-            value: record.value,
-        };
-        Ok(heed(&mut self.table, &self.rule, &self.settings, notice))
     }
 }
 
@@ -105,7 +67,9 @@ impl<R: RateRule, N: Notifier> Line<R, N> {
         ensures refused { OnErr result (state self.new frames.now wire.now ≡ state self.old frames.now wire.now) }
         ensures follows { Follows R.RateRule N.Notifier (state self.old frames.now wire.now) delivering (told_notice result) (state self.new frames.now wire.now) }
     {
-        self.hand_over(frames, wire)
+        self.check_sizes(frames, wire)?;
+        let notice = self.wire.pop(wire).map_err(|_| CallFault::NoNotice)?;
+        Ok(heed(&mut self.table, &self.regime, lawful(notice)))
     }
 
     // Applies the notice of a feedback record.
@@ -120,6 +84,12 @@ impl<R: RateRule, N: Notifier> Line<R, N> {
         ensures refused { OnErr result (state self.new frames.now wire.now ≡ state self.old frames.now wire.now) }
         ensures follows { Follows R.RateRule N.Notifier (state self.old frames.now wire.now) (receiving bytes.now) (told_notice result) (state self.new frames.now wire.now) }
     {
-        self.read_in(frames, wire, bytes)
+        self.check_sizes(frames, wire)?;
+        let record = read(bytes)?;
+        let notice = Notice {
+            to: Identity { flow: record.flow },
+            value: record.value,
+        };
+        Ok(heed(&mut self.table, &self.regime, notice))
     }
 }

@@ -11,34 +11,17 @@ use tally::fault::CallFault;
 use tally::frame::{Frame, pages};
 use tally::notice::Notice;
 
-impl<R, N> Line<R, N> {
-    // Takes the oldest frame off, and its pages; other hands may have made it longer than they are.
-    fn let_out(&mut self, frames: &[Frame], wire: &[Notice]) -> Result<Frame, CallFault>
-        ensures answer { result ≡ leave_answer (state self.old frames.now wire.now) }
-        ensures after { state self.new frames.now wire.now ≡ leave_after (state self.old frames.now wire.now) }
-        ensures refused { OnErr result (state self.new frames.now wire.now ≡ state self.old frames.now wire.now) }
-    {
-        if !self.sized(frames, wire) {
-            return Err(CallFault::Memory);
-        }
-        match self.frames.pop(frames) {
-            Ok(frame) => {
-                self.pages = self.pages.saturating_sub(pages(frame.length));
-                Ok(frame)
-            }
-            Err(_) => Err(CallFault::NoFrame),
-        }
-    }
-}
-
 impl<R: RateRule, N: Notifier> Line<R, N> {
-    // Takes the oldest frame.
+    // Takes the oldest frame, and its pages; other hands may have made it longer than they are.
     pub fn leave(&mut self, frames: &[Frame], wire: &[Notice]) -> Result<Frame, CallFault>
         ensures answer { result ≡ leave_answer (state self.old frames.now wire.now) }
         ensures after { state self.new frames.now wire.now ≡ leave_after (state self.old frames.now wire.now) }
         ensures refused { OnErr result (state self.new frames.now wire.now ≡ state self.old frames.now wire.now) }
         ensures follows { Follows R.RateRule N.Notifier (state self.old frames.now wire.now) leaving (told_leave result) (state self.new frames.now wire.now) }
     {
-        self.let_out(frames, wire)
+        self.check_sizes(frames, wire)?;
+        let frame = self.frames.pop(frames).map_err(|_| CallFault::NoFrame)?;
+        self.pages = self.pages.saturating_sub(pages(frame.length));
+        Ok(frame)
     }
 }

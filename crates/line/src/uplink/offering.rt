@@ -1,5 +1,5 @@
-ghost use Rattle.std.specs.Prelude.{◌≡◌, ◌<◌, length, OnErr, slice_set};
-ghost use Rattle.ring.specs.Standing.{standing_of, pushed, tail_place};
+ghost use Rattle.std.specs.Prelude.{◌≡◌, length, OnErr};
+ghost use Rattle.ring.specs.Standing.{standing_of};
 ghost use Rattle.tally.specs.Offering.{lawful_length, posted};
 ghost use Rattle.tally.specs.Steps.{told_offer, offer as offering};
 ghost use Rattle.line.specs.Holds.{Follows};
@@ -17,27 +17,18 @@ use tally::fault::CallFault;
 use tally::frame::{Frame, pages};
 use tally::notice::Notice;
 
+// The notifier asks the same of what it is shown, beside other things.
 fn lawful_length(length: u32) -> bool
     ensures answer { result ≡ lawful_length length }
 {
-    SHORTEST <= length && length <= LONGEST
+    (SHORTEST..=LONGEST).contains(&length)
 }
 
 // The pages that wait with a frame more; other hands may have made them too many.
 fn pages_more(waiting: u32, length: u32) -> u32
     ensures answer { result ≡ pages_more waiting length }
 {
-    (waiting as u64 + pages(length) as u64).min(MOST_PAGES as u64) as u32
-}
-
-// Puts an item where there is room for it.
-fn join<T: Copy>(ring: &mut Ring, memory: &mut [T], item: T)
-    requires sized { length memory.old ≡ (standing_of ring.old).size }
-    requires room { (standing_of ring.old).count < (standing_of ring.old).size }
-    ensures after { standing_of ring.new ≡ pushed (standing_of ring.old) }
-    ensures written { memory.new ≡ slice_set memory.old (tail_place (standing_of ring.old)) item }
-{
-    let _ = ring.push(memory, item);
+    waiting.saturating_add(pages(length)).min(MOST_PAGES)
 }
 
 // Puts a notice on the wire, if one was made; on a full wire it is gone.
@@ -50,59 +41,15 @@ fn post(ring: &mut Ring, wire: &mut [Notice], who: Identity, showing: Showing) -
     match showing {
         Showing::Unsampled => Offered::Unsampled,
         Showing::Quiet => Offered::Quiet,
-        Showing::Notice(value) => {
-            if ring.has_room() {
-                join(ring, wire, Notice { to: who, value });
-                Offered::Waiting(value)
-            } else {
-                Offered::Overrun(value)
-            }
-        }
+        Showing::Notice(value) => match ring.push(wire, Notice { to: who, value }) {
+            Ok(()) => Offered::Waiting(value),
+            Err(_) => Offered::Overrun(value),
+        },
     }
 }
 
 impl<R: RateRule, N: Notifier> Line<R, N> {
-    // A frame of a flow: charged, put behind those that wait, and shown to the notifier.
-    fn take_in(
-        &mut self,
-        frames: &mut [Frame],
-        wire: &mut [Notice],
-        who: Identity,
-        length: u32,
-    ) -> Result<Offered, CallFault>
-        ensures answer { result ≡ answer R.RateRule N.Notifier (state self.old frames.old wire.old) who length }
-        ensures after { state self.new frames.new wire.new ≡ after R.RateRule N.Notifier (state self.old frames.old wire.old) who length }
-        ensures refused { OnErr result (state self.new frames.new wire.new ≡ state self.old frames.old wire.old) }
-    {
-        if !self.sized(frames, wire) {
-            return Err(CallFault::Memory);
-        }
-        if !lawful_length(length) {
-            return Err(CallFault::Length);
-        }
-        if !self.frames.has_room() {
-            return Err(CallFault::Full);
-        }
-        let Some(mark) = self.table.pass(&self.rule, &self.settings, who, length) else {
-            return Err(CallFault::Pace);
-        };
-        let frame = Frame {
-            from: who,
-            length,
-            mark,
-        };
-        join(&mut self.frames, frames, frame);
-        self.pages = pages_more(self.pages, length);
-        let shown = Shown {
-            pages: self.pages,
-            length,
-            mark,
-        };
-        let showing = self.notifier.show(shown);
-        Ok(post(&mut self.wire, wire, who, showing))
-    }
-
-    // Offers a frame of a flow.
+    // Offers a frame of a flow: it is charged, put behind those that wait, and shown to the notifier.
     pub fn offer(
         &mut self,
         frames: &mut [Frame],
@@ -115,6 +62,31 @@ impl<R: RateRule, N: Notifier> Line<R, N> {
         ensures refused { OnErr result (state self.new frames.new wire.new ≡ state self.old frames.old wire.old) }
         ensures follows { Follows R.RateRule N.Notifier (state self.old frames.old wire.old) (offering who length) (told_offer result) (state self.new frames.new wire.new) }
     {
-        self.take_in(frames, wire, who, length)
+        self.check_sizes(frames, wire)?;
+        if !lawful_length(length) {
+            return Err(CallFault::Length);
+        }
+        if !self.frames.has_room() {
+            return Err(CallFault::Full);
+        }
+        let mark = self
+            .table
+            .pass(&self.regime, who, length)
+            .ok_or(CallFault::Pace)?;
+        let frame = Frame {
+            from: who,
+            length,
+            mark,
+        };
+        // It has room, as was asked above.
+        let _ = self.frames.push(frames, frame);
+        self.pages = pages_more(self.pages, length);
+        let shown = Shown {
+            pages: self.pages,
+            length,
+            mark,
+        };
+        let showing = self.notifier.show(shown);
+        Ok(post(&mut self.wire, wire, who, showing))
     }
 }

@@ -1,10 +1,12 @@
 ghost use Rattle.std.specs.Prelude.{◌≡◌, length, IfOk};
+ghost use Rattle.std.specs.Result.{result_err};
 ghost use Rattle.line.specs.Opening.{matching, in_limits, open_refusal, open_answer, told_open, Opens};
 
 use crate::uplink::{Line, NotOpened};
 use limiters::table::Table;
 use notifiers::notifier::Notifier;
 use rates::rate_rule::RateRule;
+use rates::regime::Regime;
 use ring::fifo::Ring;
 use settings::accepted::Settings;
 use tally::fault::OpenFault;
@@ -25,54 +27,53 @@ fn matching<N: Notifier>(settings: &Settings, notifier: &N) -> bool
 fn in_limits(frames: usize, wire: usize) -> bool
     ensures answer { result ≡ in_limits frames wire }
 {
-    1 <= frames && frames <= MOST_FRAMES && 1 <= wire && wire <= MOST_NOTICES
+    (1..=MOST_FRAMES).contains(&frames) && (1..=MOST_NOTICES).contains(&wire)
 }
 
-fn open_fault<N: Notifier>(
+// Refuses what a line may not be opened with.
+fn check_opening<N: Notifier>(
     settings: &Settings,
     notifier: &N,
     frames: usize,
     wire: usize,
-) -> Option<OpenFault>
-    ensures answer { result ≡ open_refusal settings.now (N.Notifier.meter notifier.now) frames wire }
+) -> Result<(), OpenFault>
+    ensures answer { result_err result ≡ open_refusal settings.now (N.Notifier.meter notifier.now) frames wire }
 {
     if !matching(settings, notifier) {
-        return Some(OpenFault::Notifier);
+        return Err(OpenFault::Notifier);
     }
     if !in_limits(frames, wire) {
-        return Some(OpenFault::Memory);
+        return Err(OpenFault::Memory);
     }
-    None
+    Ok(())
 }
 
 impl<R: RateRule, N: Notifier> Line<R, N> {
     // Opens a line over two memories, whose sizes are then fixed. The notifier need not be new.
     pub fn open(
-        settings: Settings,
-        rule: R,
+        regime: Regime<R>,
         notifier: N,
         frames: &[Frame],
         wire: &[Notice],
     ) -> Result<Line<R, N>, NotOpened<R, N>>
-        ensures answer { told_open settings rule notifier frames.now wire.now result ≡ open_answer settings rule notifier frames.now wire.now (open_refusal settings (N.Notifier.meter notifier) (length frames.now) (length wire.now)) }
-        ensures holds { IfOk result (Opens settings rule notifier frames.now wire.now R.RateRule N.Notifier) }
+        ensures answer { told_open regime notifier frames.now wire.now result ≡ open_answer regime notifier frames.now wire.now (open_refusal regime.settings (N.Notifier.meter notifier) (length frames.now) (length wire.now)) }
+        ensures holds { IfOk result (Opens regime notifier frames.now wire.now R.RateRule N.Notifier) }
     {
-        match open_fault(&settings, &notifier, frames.len(), wire.len()) {
-            Some(fault) => Err(NotOpened {
+        // By hand: the closure of a `map_err` would take the regime and the notifier, of which the line is made.
+        if let Err(fault) = check_opening(&regime.settings, &notifier, frames.len(), wire.len()) {
+            return Err(NotOpened {
                 fault,
-                settings,
-                rule,
+                regime,
                 notifier,
-            }),
-            None => Ok(Line {
-                settings,
-                rule,
-                notifier,
-                table: Table::new(),
-                frames: Ring::new(frames.len()),
-                wire: Ring::new(wire.len()),
-                pages: 0,
-            }),
+            });
         }
+        Ok(Line {
+            regime,
+            notifier,
+            table: Table::new(),
+            frames: Ring::new(frames.len()),
+            wire: Ring::new(wire.len()),
+            pages: 0,
+        })
     }
 }

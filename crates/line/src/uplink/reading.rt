@@ -4,27 +4,28 @@ ghost use Rattle.line.specs.Reading.{rates_of_flow, listed};
 use crate::listing::{FlowRates, ListedRow, Listing};
 use crate::uplink::Line;
 use limiters::limiter::{Identity, Limiter};
-use limiters::table::SLOTS;
+use rates::rates::Rates;
 
 impl<R, N> Line<R, N> {
     // The rates that a flow is held to, and the slot of its limiter; the line rate for both without one.
     pub fn rates_of(&self, who: Identity) -> FlowRates
-        ensures answer { result ≡ rates_of_flow self.now.settings.figures.line_rate who self.now.table.slots }
+        ensures answer { result ≡ rates_of_flow self.now.regime.settings.figures.line_rate who self.now.table.slots }
     {
-        if let Some(slot) = self.table.serving(who) {
-            if let Limiter::InService(row) = self.table.limiter(slot) {
-                return FlowRates {
-                    slot: Some(slot),
-                    current: row.current,
-                    target: row.target,
-                };
-            }
+        if let Some(slot) = self.table.serving(who)
+            && let Limiter::InService(row) = self.table.limiter(slot)
+        {
+            return FlowRates {
+                slot: Some(slot),
+                rates: row.rates,
+            };
         }
-        let line_rate = self.settings.line_rate();
+        let line_rate = self.regime.settings.line_rate();
         FlowRates {
             slot: None,
-            current: line_rate,
-            target: line_rate,
+            rates: Rates {
+                current: line_rate,
+                target: line_rate,
+            },
         }
     }
 
@@ -33,12 +34,9 @@ impl<R, N> Line<R, N> {
         ensures answer { take result.count result.rows ≡ listed 0 self.now.table.slots }
     {
         let mut listing = Listing::empty();
-        for slot in 0..SLOTS {
-            if let Limiter::InService(row) = self.table.limiter(slot) {
-                listing.add(ListedRow {
-                    slot,
-                    serves: row.serves,
-                });
+        for (slot, limiter) in self.table.slots().iter().enumerate() {
+            if let Some(serves) = limiter.serves() {
+                listing.add(ListedRow { slot, serves });
             }
         }
         listing

@@ -14,23 +14,6 @@ use tally::notice::Notice;
 // The longest wait, µs.
 pub const LONGEST_WAIT: u32 = 1_000_000;
 
-impl<R: RateRule, N> Line<R, N> {
-    // Lets so many microseconds pass for every limiter.
-    fn let_pass(&mut self, frames: &[Frame], wire: &[Notice], wait: u32) -> Result<u64, CallFault>
-        ensures answer { result ≡ wait_answer R.RateRule (state self.old frames.now wire.now) wait }
-        ensures after { state self.new frames.now wire.now ≡ wait_after R.RateRule (state self.old frames.now wire.now) wait }
-        ensures refused { OnErr result (state self.new frames.now wire.now ≡ state self.old frames.now wire.now) }
-    {
-        if !self.sized(frames, wire) {
-            return Err(CallFault::Memory);
-        }
-        if wait > LONGEST_WAIT {
-            return Err(CallFault::Wait);
-        }
-        Ok(self.table.wait(&self.rule, &self.settings, wait))
-    }
-}
-
 impl<R: RateRule, N: Notifier> Line<R, N> {
     // Waits so many microseconds; how many expiries there were.
     pub fn wait(&mut self, frames: &[Frame], wire: &[Notice], wait: u32) -> Result<u64, CallFault>
@@ -39,6 +22,10 @@ impl<R: RateRule, N: Notifier> Line<R, N> {
         ensures refused { OnErr result (state self.new frames.now wire.now ≡ state self.old frames.now wire.now) }
         ensures follows { Follows R.RateRule N.Notifier (state self.old frames.now wire.now) (waiting wait) (told_wait result) (state self.new frames.now wire.now) }
     {
-        self.let_pass(frames, wire, wait)
+        self.check_sizes(frames, wire)?;
+        if wait > LONGEST_WAIT {
+            return Err(CallFault::Wait);
+        }
+        Ok(self.table.wait(&self.regime, wait))
     }
 }

@@ -6,4 +6,4 @@ use Rattle.line.proofs.uplink.Line.listing.Given as goal
 abbrev pub invariant-loop-slot : goal.invariant-loop-slot
 invariant-loop-slot g l =
     (l.listing.count ≤ l.slot)
-    × (take l.listing.count l.listing.rows ++ listed l.slot (drop l.slot l.self.table.slots) ≡ listed 0 l.self.table.slots)
+    × (take l.listing.count l.listing.rows ++ listed l.slot (drop l.slot l.limiter-items) ≡ listed 0 l.limiter-items)

@@ -5,7 +5,7 @@ use Rattle.line.specs.State.{state}
 use Rattle.line.proofs.uplink.Line.make_calls.Given as goal
 
 -- the calls so far are a run, and the places to come are as they were
-abbrev pub invariant-loop-i : goal.invariant-loop-i
-invariant-loop-i g l =
-    Runs g.R.RateRule g.N.Notifier (state l.initial.self l.initial.frames l.initial.wire) (map said (take l.i l.calls)) (take l.i l.answers) (state l.self l.frames l.wire)
-    × (drop l.i l.answers ≡ drop l.i l.initial.answers)
+abbrev pub invariant-loop-place : goal.invariant-loop-place
+invariant-loop-place g l =
+    Runs g.R.RateRule g.N.Notifier (state l.initial.self l.initial.frames l.initial.wire) (map said (take l.place l.calls)) (take l.place l.answers) (state l.self l.frames l.wire)
+    × (drop l.place l.answers ≡ drop l.place l.initial.answers)
