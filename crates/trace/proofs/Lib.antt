@@ -1,4 +1,2 @@
 pub mod Settling
 pub mod Beginning
-pub mod Columns
-pub mod Answered

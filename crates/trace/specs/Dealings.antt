@@ -12,13 +12,14 @@ use Rattle.tally.specs.Steps as asked
 use Rattle.tally.specs.Steps.{Asked}
 use Rattle.tally.specs.Tally.{Constants, Tally, opened}
 use Rattle.tally.specs.declared.call.Answer.{Answer}
+use Rattle.tally.specs.declared.fault.CallFault.{CallFault}
 use Rattle.trace.specs.Session.{Serving, Situation, shut, serving, beginning, identity, bytes_of, rule_meaning, notifier_meaning}
 use Rattle.trace.specs.Transcript.{line_after, lines_of}
 
 -- A call with its answer.
 pub record Dealing : Type 0 where
   pub asked : Asked
-  pub answer : Answer
+  pub answer : Result Answer CallFault
 
 -- The call that a command makes on a line in service; flows' rates and columns are only read.
 abbrev pub calls_by : Said → List Asked

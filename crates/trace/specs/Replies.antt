@@ -2,6 +2,8 @@
 use Rattle.std.specs.Prelude.{ℕ, List, take, Ok, Err, Result}
 use Rattle.line.specs.declared.listing.FlowRates.{FlowRates}
 use Rattle.line.specs.declared.listing.ListedRow.{ListedRow}
+use Rattle.tally.specs.declared.call.Answer.{Answer}
+use Rattle.tally.specs.declared.call.Answer.TheVariants as answer
 use Rattle.tally.specs.declared.call.Offered.{Offered}
 use Rattle.tally.specs.declared.call.Outcome.{Outcome}
 use Rattle.tally.specs.declared.frame.Frame.{Frame}
@@ -19,12 +21,15 @@ pub data Told : Type 0 where
   held : FlowRates → Told
   listed : List ListedRow → Told
 
+abbrev pub answer_told : Answer → Told
+answer_told (answer.Accepted o) = accepted o
+answer_told (answer.Left f) = left f
+answer_told (answer.Heard o) = heard o
+answer_told (answer.Waited n) = waited n
+
 abbrev pub told : Reply → Told
 told reply.Opened = opened
-told (reply.Accepted o) = accepted o
-told (reply.Left f) = left f
-told (reply.Heard o) = heard o
-told (reply.Waited n) = waited n
+told (reply.Answered a) = answer_told a
 told (reply.Held r) = held r
 told (reply.Listed l) = listed (take l.count l.rows)
 

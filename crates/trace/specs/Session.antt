@@ -22,7 +22,7 @@ use Rattle.line.specs.declared.uplink.Line.{Line}
 use Rattle.tally.specs.Steps as asked
 use Rattle.tally.specs.Steps.{Asked}
 use Rattle.tally.specs.declared.call.Answer.{Answer}
-use Rattle.tally.specs.declared.call.Answer.TheVariants as answer
+use Rattle.tally.specs.declared.fault.CallFault.{CallFault}
 use Rattle.tally.specs.declared.frame.Frame.{Frame}
 use Rattle.tally.specs.declared.notice.Notice.{Notice}
 use Rattle.trace.specs.declared.session.Session.{Session}
@@ -63,7 +63,7 @@ opening_reply (Ok set) = Ok replies.opened
 opening_reply (Err e) = Err (Unsettled e)
 
 abbrev pub new_serving : Opening → Settings → List Frame → List Notice → Serving
-new_serving o set frames wire = new_state set (chosen_rule o.rule set) (chosen_new o.notifier set) frames wire
+new_serving o set frames wire = new_state (record { rule = chosen_rule o.rule set; settings = set }) (chosen_new o.notifier set) frames wire
 
 abbrev pub opened_line : Opening → List Frame → List Notice → Result Settings SettingsFault → Result Serving TraceFault
 opened_line o frames wire (Ok set) = Ok (new_serving o set frames wire)
@@ -74,12 +74,9 @@ opened_by o frames wire (Ok set) = serving (new_serving o set frames wire)
 opened_by o frames wire (Err e) = shut frames wire
 
 -- A call's answer: a refusal is the trace's.
-abbrev pub answer_reply : Answer → Result Told TraceFault
-answer_reply (answer.Accepted o) = Ok (replies.accepted o)
-answer_reply (answer.Left f) = Ok (replies.left f)
-answer_reply (answer.Heard o) = Ok (replies.heard o)
-answer_reply (answer.Waited n) = Ok (replies.waited n)
-answer_reply (answer.Refused e) = Err (Call e)
+abbrev pub answer_reply : Result Answer CallFault → Result Told TraceFault
+answer_reply (Ok a) = Ok (replies.answer_told a)
+answer_reply (Err e) = Err (Call e)
 
 -- The bytes that digits write.
 abbrev pub bytes_of : List ℕ → List ℕ
@@ -120,7 +117,7 @@ serving_reply s said.leaves = call_reply s asked.leave
 serving_reply s said.delivers = call_reply s asked.deliver
 serving_reply s (said.receives digits) = call_reply s (asked.receive (bytes_of digits))
 serving_reply s (said.waits n) = call_reply s (asked.wait n)
-serving_reply s (said.rates flow) = Ok (replies.held (rates_of_flow s.settings.figures.line_rate (identity flow) s.slots))
+serving_reply s (said.rates flow) = Ok (replies.held (rates_of_flow s.regime.settings.figures.line_rate (identity flow) s.slots))
 serving_reply s said.columns = Ok (replies.listed (listed 0 s.slots))
 
 abbrev pub serving_after : Serving → Said → Situation

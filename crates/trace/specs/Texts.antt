@@ -44,7 +44,7 @@ abbrev pub left_fields : Frame → List Printed
 left_fields f = Number 0 ∷ Number f.from.flow ∷ Number f.length ∷ Number f.mark ∷ []
 
 abbrev pub held_fields : FlowRates → List Printed
-held_fields r = Number 0 ∷ slot_field r.slot ∷ Number r.current ∷ Number r.target ∷ []
+held_fields r = Number 0 ∷ slot_field r.slot ∷ Number r.rates.current ∷ Number r.rates.target ∷ []
 
 abbrev pub told_text : Told → List ℕ
 told_text opened = line_text (Number 0 ∷ [])

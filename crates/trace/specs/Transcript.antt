@@ -5,6 +5,8 @@ use Rattle.commands.specs.Commands.{said as said_by}
 use Rattle.commands.specs.Said.{Said}
 use Rattle.commands.specs.declared.misread.Misread.{Misread}
 use Rattle.fields.specs.Parts.{parts}
+use Rattle.fields.specs.declared.failure.Failure.{Failure}
+use Rattle.fields.specs.declared.failure.Failure.TheVariants.{Refused, Memory}
 use Rattle.trace.specs.declared.fault.Refusal.{Refusal}
 use Rattle.trace.specs.declared.fault.TraceFault.{TraceFault}
 use Rattle.trace.specs.declared.fault.TraceFault.TheVariants.{Long, Syntax}
@@ -45,6 +47,13 @@ line_after s line = after_read s (said_by line)
 abbrev pub told_placed : Result Reply Refusal → Result Told Refusal
 told_placed (Ok r) = Ok (told r)
 told_placed (Err e) = Err e
+
+-- A failure with its place: a refusal as it is placed, want of memory as it is.
+abbrev pub PlacedBy : {F : Type 0} → (F → Refusal → Type 0) → Failure F → Failure Refusal → Type 0
+PlacedBy place (Refused f) (Refused r) = place f r
+PlacedBy place (Refused f) Memory = ⊥
+PlacedBy place Memory (Refused r) = ⊥
+PlacedBy place Memory Memory = Unit {0}
 
 -- The lines of a trace: each is ended by a newline (10), save perhaps the last.
 abbrev pub ended : List (List ℕ) → List (List ℕ)

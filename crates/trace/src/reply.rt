@@ -1,16 +1,12 @@
 use line::listing::{FlowRates, Listing};
-use tally::call::{Offered, Outcome};
-use tally::frame::Frame;
+use tally::call::Answer;
 
 // What an accepted line of a trace is answered.
 #[derive(Clone, Copy)]
 pub enum Reply {
     Opened,
-    Accepted(Offered),
-    Left(Frame),
-    Heard(Outcome),
-    // How many expiries there were.
-    Waited(u64),
+    // By a call.
+    Answered(Answer),
     // A flow's rates.
     Held(FlowRates),
     // The columns.

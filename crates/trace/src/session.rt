@@ -1,6 +1,5 @@
-ghost use Rattle.std.specs.Prelude.{◌≡◌};
-
 use line::uplink::Line;
+use line::uplink::opening::{MOST_FRAMES, MOST_NOTICES};
 use notifiers::chosen::ChosenNotifier;
 use rates::chosen::ChosenRule;
 use tally::frame::Frame;
@@ -13,6 +12,6 @@ pub mod opening;
 #[derive(Drop)]
 pub struct Session {
     line: Option<Line<ChosenRule, ChosenNotifier>>,
-    frames: [Frame; 256],
-    wire: [Notice; 32],
+    frames: [Frame; MOST_FRAMES],
+    wire: [Notice; MOST_NOTICES],
 }

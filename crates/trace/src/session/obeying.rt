@@ -1,123 +1,46 @@
-ghost use Rattle.std.specs.Prelude.{◌≡◌, IfOk, None, OnOk};
+ghost use Rattle.std.specs.Prelude.{◌≡◌, None};
+ghost use Rattle.fields.specs.Failures.{unless_memory};
+ghost use Rattle.fields.specs.declared.failure.Failure.TheVariants.{Refused};
+ghost use Rattle.trace.specs.declared.fault.TraceFault.TheVariants.{Call as Called};
 ghost use Rattle.commands.specs.Said.{meant, receives};
 ghost use Rattle.line.specs.State.{state};
-ghost use Rattle.tally.specs.Steps.{told_offer, told_leave, told_notice, told_wait};
+ghost use Rattle.tally.specs.Saying.{said};
 ghost use Rattle.trace.specs.Replies.{told_reply};
-ghost use Rattle.trace.specs.Session.{answer_reply, serving_reply, serving_after, serving, reply_to, situation, situation_after};
+ghost use Rattle.trace.specs.Session.{call_reply, call_after, serving_reply, serving_after, serving, reply_to, situation, situation_after};
 
 use crate::fault::TraceFault;
 use crate::reply::Reply;
 use crate::session::Session;
-use crate::session::opening::open_line;
 use commands::command::Command;
-use fields::{HexFault, hex_bytes};
+use fields::{Failure, hex_bytes};
 use limiters::limiter::Identity;
 use line::uplink::Line;
 use notifiers::chosen::ChosenNotifier;
 use rates::chosen::ChosenRule;
-use std::alloc::{AllocError, Global};
-use tally::call::{Offered, Outcome};
+use std::alloc::Global;
+use tally::call::Call;
 use tally::fault::CallFault;
-use tally::frame::Frame;
-use tally::notice::Notice;
 
-// A call's answer as a reply; its refusal is the trace's.
-fn accepted(answer: Result<Offered, CallFault>) -> Result<Reply, TraceFault>
-    ensures answer { told_reply result ≡ answer_reply (told_offer answer) }
+// A call's refusal is the trace's.
+fn refused(fault: CallFault) -> Failure<TraceFault>
+    ensures answer { result ≡ Refused (Called fault) }
 {
-    match answer {
-        Ok(offered) => Ok(Reply::Accepted(offered)),
-        Err(fault) => Err(TraceFault::from(fault)),
-    }
-}
-
-fn left(answer: Result<Frame, CallFault>) -> Result<Reply, TraceFault>
-    ensures answer { told_reply result ≡ answer_reply (told_leave answer) }
-{
-    match answer {
-        Ok(frame) => Ok(Reply::Left(frame)),
-        Err(fault) => Err(TraceFault::from(fault)),
-    }
-}
-
-fn heard(answer: Result<Outcome, CallFault>) -> Result<Reply, TraceFault>
-    ensures answer { told_reply result ≡ answer_reply (told_notice answer) }
-{
-    match answer {
-        Ok(outcome) => Ok(Reply::Heard(outcome)),
-        Err(fault) => Err(TraceFault::from(fault)),
-    }
-}
-
-fn waited(answer: Result<u64, CallFault>) -> Result<Reply, TraceFault>
-    ensures answer { told_reply result ≡ answer_reply (told_wait answer) }
-{
-    match answer {
-        Ok(expiries) => Ok(Reply::Waited(expiries)),
-        Err(fault) => Err(TraceFault::from(fault)),
-    }
-}
-
-// A record by its digits.
-fn receive(
-    heap: Global,
-    line: &mut Line<ChosenRule, ChosenNotifier>,
-    frames: &mut [Frame],
-    wire: &mut [Notice],
-    digits: &[u8],
-) -> Result<Result<Reply, TraceFault>, AllocError>
-    ensures answer { IfOk result (λ x. told_reply x ≡ serving_reply (state line.old frames.old wire.old) (receives digits.now)) }
-    ensures after { OnOk result (serving (state line.new frames.new wire.new) ≡ serving_after (state line.old frames.old wire.old) (receives digits.now)) }
-{
-    match hex_bytes(heap, digits) {
-        Ok(bytes) => Ok(heard(line.receive(frames, wire, bytes.as_slice()))),
-        Err(HexFault::Digits) => Ok(heard(line.receive(frames, wire, &[]))),
-        Err(HexFault::Memory) => Err(AllocError),
-    }
-}
-
-// A command to a line in service.
-fn serve(
-    heap: Global,
-    line: &mut Line<ChosenRule, ChosenNotifier>,
-    frames: &mut [Frame],
-    wire: &mut [Notice],
-    command: Command,
-) -> Result<Result<Reply, TraceFault>, AllocError>
-    ensures answer { IfOk result (λ x. told_reply x ≡ serving_reply (state line.old frames.old wire.old) (meant command.entry)) }
-    ensures after { OnOk result (serving (state line.new frames.new wire.new) ≡ serving_after (state line.old frames.old wire.old) (meant command.entry)) }
-{
-    match command {
-        Command::Open(_) => Ok(Err(TraceFault::Order)),
-        Command::Offer { flow, length } => {
-            Ok(accepted(line.offer(frames, wire, Identity { flow }, length)))
-        }
-        Command::Leave => Ok(left(line.leave(frames, wire))),
-        Command::Deliver => Ok(heard(line.deliver(frames, wire))),
-        Command::Receive { digits } => receive(heap, line, frames, wire, digits),
-        Command::Wait(wait) => Ok(waited(line.wait(frames, wire, wait))),
-        Command::Rates(flow) => Ok(Ok(Reply::Held(line.rates_of(Identity { flow })))),
-        Command::Columns => Ok(Ok(Reply::Listed(line.listing()))),
-    }
+    Failure::Refused(TraceFault::from(fault))
 }
 
 impl Session {
     // Does what a command says, or refuses it. For want of memory only a record is left undone.
-    pub fn obey(
-        &mut self,
-        heap: Global,
-        command: Command,
-    ) -> Result<Result<Reply, TraceFault>, AllocError>
-        ensures answer { IfOk result (λ x. told_reply x ≡ reply_to (situation self.old) (meant command.entry)) }
-        ensures after { OnOk result (situation self.new ≡ situation_after (situation self.old) (meant command.entry)) }
+    pub fn obey(&mut self, heap: Global, command: Command) -> Result<Reply, Failure<TraceFault>>
+        ensures answer { unless_memory result (λ x. told_reply x ≡ reply_to (situation self.old) (meant command.entry)) }
+        ensures after { unless_memory result (λ _. situation self.new ≡ situation_after (situation self.old) (meant command.entry)) }
     {
         match self.line.take() {
             Some(mut line) => {
-                let reply = serve(heap, &mut line, &mut self.frames, &mut self.wire, command);
+                let reply = self.serve(heap, &mut line, command);
                 self.line = Some(line);
                 reply
             }
-            None => Ok(self.begin(command)),
+            None => self.begin(command).map_err(Failure::Refused),
         }
     }
 
@@ -130,12 +53,62 @@ impl Session {
         let Command::Open(opening) = command else {
             return Err(TraceFault::Order);
         };
-        match open_line(opening, &self.frames, &self.wire) {
-            Ok(line) => {
-                self.line = Some(line);
-                Ok(Reply::Opened)
+        self.line = Some(self.open_line(opening)?);
+        Ok(Reply::Opened)
+    }
+
+    // A command to the line in service, which is handed in. A match, since a trace's lines are data.
+    fn serve(
+        &mut self,
+        heap: Global,
+        line: &mut Line<ChosenRule, ChosenNotifier>,
+        command: Command,
+    ) -> Result<Reply, Failure<TraceFault>>
+        ensures answer { unless_memory result (λ x. told_reply x ≡ serving_reply (state line.old self.old.frames self.old.wire) (meant command.entry)) }
+        ensures after { unless_memory result (λ _. serving (state line.new self.new.frames self.new.wire) ≡ serving_after (state line.old self.old.frames self.old.wire) (meant command.entry)) }
+    {
+        match command {
+            Command::Open(_) => Err(Failure::Refused(TraceFault::Order)),
+            Command::Offer { flow, length } => {
+                self.call(line, Call::Offer(Identity { flow }, length))
             }
-            Err(fault) => Err(fault),
+            Command::Leave => self.call(line, Call::Leave),
+            Command::Deliver => self.call(line, Call::Deliver),
+            Command::Receive { digits } => self.receive(heap, line, digits),
+            Command::Wait(wait) => self.call(line, Call::Wait(wait)),
+            Command::Rates(flow) => Ok(Reply::Held(line.rates_of(Identity { flow }))),
+            Command::Columns => Ok(Reply::Listed(line.listing())),
         }
+    }
+
+    // A record by its digits. Digits that are none have no bytes, so that the call itself refuses them.
+    fn receive(
+        &mut self,
+        heap: Global,
+        line: &mut Line<ChosenRule, ChosenNotifier>,
+        digits: &[u8],
+    ) -> Result<Reply, Failure<TraceFault>>
+        ensures answer { unless_memory result (λ x. told_reply x ≡ serving_reply (state line.old self.old.frames self.old.wire) (receives digits.now)) }
+        ensures after { unless_memory result (λ _. serving (state line.new self.new.frames self.new.wire) ≡ serving_after (state line.old self.old.frames self.old.wire) (receives digits.now)) }
+    {
+        match hex_bytes(heap, digits) {
+            Ok(bytes) => self.call(line, Call::Receive(bytes.as_slice())),
+            Err(Failure::Refused(_)) => self.call(line, Call::Receive(&[])),
+            Err(Failure::Memory) => Err(Failure::Memory),
+        }
+    }
+
+    // A call on the line, whose answer or refusal is the trace's.
+    fn call(
+        &mut self,
+        line: &mut Line<ChosenRule, ChosenNotifier>,
+        call: Call,
+    ) -> Result<Reply, Failure<TraceFault>>
+        ensures answer { unless_memory result (λ x. told_reply x ≡ call_reply (state line.old self.old.frames self.old.wire) (said call.entry)) }
+        ensures after { serving (state line.new self.new.frames self.new.wire) ≡ call_after (state line.old self.old.frames self.old.wire) (said call.entry) }
+        ensures line { self.new.line ≡ self.old.line }
+    {
+        let answer = line.make_call(&mut self.frames, &mut self.wire, call);
+        answer.map(Reply::Answered).map_err(refused)
     }
 }
