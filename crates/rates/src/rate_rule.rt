@@ -31,6 +31,25 @@ pub trait RateRule {
     ghost lawful: { (x : Self) → Lawful (meaning x) };
 }
 
+// A rule that is lent is a rule, so that one rule can serve under several settings.
+impl<R: RateRule> RateRule for &R {
+    ghost meaning = { λ rule. R.RateRule.meaning rule.now };
+
+    ghost lawful = { λ rule. R.RateRule.lawful rule.now };
+
+    fn floor(&self) -> u32 {
+        (**self).floor()
+    }
+
+    fn cut(&self, line_rate: u32, current: u32, value: u8) -> u32 {
+        (**self).cut(line_rate, current, value)
+    }
+
+    fn raise(&self, line_rate: u32, rates: Rates, stages: Stages) -> Rates {
+        (**self).raise(line_rate, rates, stages)
+    }
+}
+
 // Floor, line rate and current rate come apart, here and below, as the trait's calls are given them.
 fn in_bounds(floor: u32, line_rate: u32, current: u32) -> bool
     ensures answer { result ≡ in_bounds floor line_rate current }

@@ -1,5 +1,6 @@
 use rates::rate_rule::RateRule;
 use rates::rates::{Rates, Stages};
+use rates::regime::Regime;
 use rates::rung_rule::RungRule;
 use settings::accepted::Settings;
 use settings::figures::Figures;
@@ -8,9 +9,9 @@ use std::test::Fail;
 const LINE_RATE: u32 = 10_000_000;
 
 // Written out, though other crates' examples have the like: the rates below are reckoned from these eight.
-fn rule() -> Result<RungRule, Fail> {
+fn settings(line_rate: u32) -> Result<Settings, Fail> {
     Settings::accept(Figures {
-        line_rate: LINE_RATE,
+        line_rate,
         gain: 8,
         step_a: 5_000,
         step_b: 50_000,
@@ -19,8 +20,11 @@ fn rule() -> Result<RungRule, Fail> {
         set_point: 16,
         weight: 2,
     })
-    .map(RungRule::new)
     .map_err(|_| Fail::new("the settings are refused"))
+}
+
+fn rule() -> Result<RungRule, Fail> {
+    Ok(RungRule::new(settings(LINE_RATE)?))
 }
 
 // Gain 8: value 1 leaves 1016/1024 of a rate, value 63 leaves 520/1024. Rungs: 10,048 and 10,205 begin the first
@@ -82,5 +86,22 @@ fn raises(rt: HostRuntime) -> Result<(), Fail> {
         assert_eq!(rt; raised.current, after);
         assert_eq!(rt; raised.target, target);
     }
+    Ok(())
+}
+
+// One rule, lent to two lines: at the slower one 10,000,000 is above the line rate, and comes back.
+#[test]
+fn lent_to_two_lines(rt: HostRuntime) -> Result<(), Fail> {
+    let rule = rule()?;
+    let fast = Regime {
+        rule: &rule,
+        settings: settings(LINE_RATE)?,
+    };
+    let slow = Regime {
+        rule: &rule,
+        settings: settings(1_000_000)?,
+    };
+    assert_eq!(rt; fast.cut(10_000_000, 1), 9_967_616);
+    assert_eq!(rt; slow.cut(10_000_000, 1), 10_000_000);
     Ok(())
 }
