@@ -5,6 +5,7 @@ ghost use Rattle.fields.specs.Letters.{letter_of};
 ghost use Rattle.fields.specs.Parts.{parts};
 
 use crate::decimals::decimal;
+use crate::places::{field_at, field_count};
 use std::alloc::{AllocError, Global};
 use std::marker::Model;
 
@@ -26,14 +27,28 @@ impl<'a> Fields<'a> {
     pub fn count(&self) -> usize
         ensures answer { result ≡ length self.now }
     {
-        self.fields.len()
+        field_count(&self.fields)
     }
 
     // The field in a place, and an empty one past the end.
     pub fn at(&self, place: usize) -> &'a [u8]
         ensures answer { result.now ≡ slice_index_or self.now place [] }
     {
-        self.fields.get(place).copied().unwrap_or(&[])
+        field_at(&self.fields, place)
+    }
+
+    // The fields as a slice, to go over them.
+    pub fn as_slice(&self) -> &[&'a [u8]]
+        ensures answer { map (λ x. x.now) result.now ≡ self.now }
+    {
+        &self.fields
+    }
+
+    // The list itself, to own or to change.
+    pub fn into_vec(self) -> Vec<&'a [u8]>
+        ensures answer { map (λ x. x.now) result.items ≡ self.entry }
+    {
+        self.fields
     }
 
     // The number that the field in a place writes in decimal digits.
