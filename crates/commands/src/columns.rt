@@ -7,12 +7,10 @@ pub fn column_of(line: &[u8], place: usize) -> usize
     ensures answer { result ≡ column_of line.now place }
 {
     let mut column = 1;
-    // A loop: what is summed is before the place, and the line may have no field there.
-    for (i, field) in line.split(|byte| *byte == b' ').enumerate() {
-        if i == place {
-            return column;
-        }
+    for field in line.split(|byte| *byte == b' ').take(place) {
         column += field.len() + 1;
     }
-    1
+    // Past the line's end and one more byte, all its fields were gone over, each with a separator behind it: the line has no
+    // field in that place.
+    if column <= line.len() + 1 { column } else { 1 }
 }
