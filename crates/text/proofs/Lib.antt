@@ -1,3 +1,4 @@
+mod Digits
 pub mod Pasting
 mod Turns
 mod ReadBack

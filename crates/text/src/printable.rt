@@ -45,17 +45,23 @@ fn digit(n: u64) -> [u8; 1]
     [b'0' + n as u8]
 }
 
+// How many digits a number has: at most 20. So the room is asked once for a number, and not once for each digit.
+fn digits(n: u64) -> usize
+    ensures answer { result ≡ length (decimal n) }
+{
+    if n < BASE {
+        return 1;
+    }
+    digits(n / BASE) + 1
+}
+
 // In decimal, the digits before the last one first.
 // By hand: two short recursions, where the library's `itoa` would be one thing more to trust.
 impl Printable for u64 {
     ghost text = { decimal };
 
     fn left_after(&self, room: usize) -> Option<usize> {
-        let n = *self;
-        if n < BASE {
-            return digit(n).left_after(room);
-        }
-        digit(n % BASE).left_after((n / BASE).left_after(room)?)
+        room.checked_sub(digits(*self))
     }
 
     fn put(&self, out: &mut [u8], at: usize) -> usize {
