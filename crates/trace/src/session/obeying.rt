@@ -1,7 +1,5 @@
 ghost use Rattle.std.specs.Prelude.{◌≡◌, None};
 ghost use Rattle.fields.specs.Failures.{unless_memory};
-ghost use Rattle.fields.specs.declared.failure.Failure.TheVariants.{Refused};
-ghost use Rattle.trace.specs.declared.fault.TraceFault.TheVariants.{Call as Called};
 ghost use Rattle.commands.specs.Said.{meant, receives};
 ghost use Rattle.line.specs.State.{state};
 ghost use Rattle.tally.specs.Saying.{said};
@@ -19,14 +17,6 @@ use notifiers::chosen::ChosenNotifier;
 use rates::chosen::ChosenRule;
 use std::alloc::Global;
 use tally::call::Call;
-use tally::fault::CallFault;
-
-// A call's refusal is the trace's.
-fn refused(fault: CallFault) -> Failure<TraceFault>
-    ensures answer { result ≡ Refused (Called fault) }
-{
-    Failure::Refused(TraceFault::from(fault))
-}
 
 impl Session {
     // Does what a command says, or refuses it. For want of memory only a record is left undone.
@@ -67,18 +57,19 @@ impl Session {
         ensures answer { unless_memory result (λ x. told_reply x ≡ serving_reply (state line.old self.old.frames self.old.wire) (meant command.entry)) }
         ensures after { unless_memory result (λ _. serving (state line.new self.new.frames self.new.wire) ≡ serving_after (state line.old self.old.frames self.old.wire) (meant command.entry)) }
     {
-        match command {
-            Command::Open(_) => Err(Failure::Refused(TraceFault::Order)),
+        let reply = match command {
+            Command::Open(_) => Err(TraceFault::Order),
             Command::Offer { flow, length } => {
                 self.call(line, Call::Offer(Identity { flow }, length))
             }
             Command::Leave => self.call(line, Call::Leave),
             Command::Deliver => self.call(line, Call::Deliver),
-            Command::Receive { digits } => self.receive(heap, line, digits),
+            Command::Receive { digits } => return self.receive(heap, line, digits),
             Command::Wait(wait) => self.call(line, Call::Wait(wait)),
             Command::Rates(flow) => Ok(Reply::Held(line.rates_of(Identity { flow }))),
             Command::Columns => Ok(Reply::Listed(line.listing())),
-        }
+        };
+        reply.map_err(Failure::Refused)
     }
 
     // A record by its digits. Digits that are none have no bytes, so that the call itself refuses them.
@@ -91,11 +82,12 @@ impl Session {
         ensures answer { unless_memory result (λ x. told_reply x ≡ serving_reply (state line.old self.old.frames self.old.wire) (receives digits.now)) }
         ensures after { unless_memory result (λ _. serving (state line.new self.new.frames self.new.wire) ≡ serving_after (state line.old self.old.frames self.old.wire) (receives digits.now)) }
     {
-        match hex_bytes(heap, digits) {
+        let reply = match hex_bytes(heap, digits) {
             Ok(bytes) => self.call(line, Call::Receive(bytes.as_slice())),
             Err(Failure::Refused(_)) => self.call(line, Call::Receive(&[])),
-            Err(Failure::Memory) => Err(Failure::Memory),
-        }
+            Err(Failure::Memory) => return Err(Failure::Memory),
+        };
+        reply.map_err(Failure::Refused)
     }
 
     // A call on the line, whose answer or refusal is the trace's.
@@ -103,12 +95,11 @@ impl Session {
         &mut self,
         line: &mut Line<ChosenRule, ChosenNotifier>,
         call: Call,
-    ) -> Result<Reply, Failure<TraceFault>>
-        ensures answer { unless_memory result (λ x. told_reply x ≡ call_reply (state line.old self.old.frames self.old.wire) (said call.entry)) }
+    ) -> Result<Reply, TraceFault>
+        ensures answer { told_reply result ≡ call_reply (state line.old self.old.frames self.old.wire) (said call.entry) }
         ensures after { serving (state line.new self.new.frames self.new.wire) ≡ call_after (state line.old self.old.frames self.old.wire) (said call.entry) }
         ensures line { self.new.line ≡ self.old.line }
     {
-        let answer = line.make_call(&mut self.frames, &mut self.wire, call);
-        answer.map(Reply::Answered).map_err(refused)
+        Ok(Reply::Answered(line.make_call(&mut self.frames, &mut self.wire, call)?))
     }
 }
