@@ -75,7 +75,8 @@ module _ {T : Type 0} where
       ]
   sound_after s m Pop sound = cond_both (is_ok (pop_answer s m)) (popped s) s Sound (λ _. sound_popped s sound) (λ _. sound)
 
-  in_order_computed :
+  -- For any bookkeeping that is sound.
+  pub in_order_computed :
       (s : Standing) (m : List T) (calls : List (Call T)) → Sound s
       → taken_off (answers_to s m calls) ++ waiting (standing_at_end s m calls) (memory_at_end s m calls) ≡ waiting s m ++ put_in calls (answers_to s m calls)
   unfolding answers_to standing_at_end memory_at_end taken_off put_in
