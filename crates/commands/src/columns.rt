@@ -10,7 +10,6 @@ pub fn column_of(line: &[u8], place: usize) -> usize
     for field in line.split(|byte| *byte == b' ').take(place) {
         column += field.len() + 1;
     }
-    // Past the line's end and one more byte, all its fields were gone over, each with a separator behind it: the line has no
-    // field in that place.
+    // A field begins at most one byte past the line's end, as an empty last one does. Further on, all were passed.
     if column <= line.len() + 1 { column } else { 1 }
 }
